@@ -1,0 +1,1 @@
+// The theorems about the rules stand in specs/. No code.

@@ -1,0 +1,34 @@
+-- Document 01, "The better of two": "of two lent orders, the first n entries of the one with the lower highest slot are handed back, that part
+-- itself and no copy; on equality, of the first. The part is empty exactly when a packing of either would be refused." Assumes nothing.
+use Prim.Native.Nat.{ℕ}
+use mathlib.Core.Path.{_≡_}
+use mathlib.Core.Bool.{Bool, cond, _||_, not}
+use mathlib.Core.List.{List}
+use lib.Dec.{ltb, eqb}
+use lib.ListN.{take}
+use denote.Ref.{RefT, now, ptr}
+use Rattle.rules.specs.Tables.{cleared}
+use Rattle.rules.specs.declared.Packed.{Packed}
+use Rattle.rules.specs.Calls.{packing}
+
+-- what packing an order answers, given room for its starts
+unfoldable pub packedAnswer : ℕ → List ℕ → List ℕ → List ℕ → Packed
+packedAnswer n widths guards order = packing n widths guards order (cleared 128 0) .answer
+
+-- 0 for neither, 1 for the first, 2 for the second
+unfoldable pub comparing : ℕ → List ℕ → List ℕ → List ℕ → List ℕ → ℕ
+comparing n widths guards first second =
+    let a = packedAnswer n widths guards first in
+    let b = packedAnswer n widths guards second in
+    cond (not (eqb (a .number) 0) || not (eqb (b .number) 0)) 0 (cond (ltb (b .highest) (a .highest)) 2 1)
+
+-- a reference is the first k cells of another, in place: the same pointer, and those cells
+pub record Part (whole : RefT (List ℕ)) (k : ℕ) (part : RefT (List ℕ)) : Type 0 where
+  pub place : ptr part ≡ ptr whole
+  pub cells : now part ≡ take k (now whole)
+
+-- better(n, widths, guards, first, second): the part handed back. The empty part is one of the first order
+unfoldable pub Bettered : ℕ → List ℕ → List ℕ → RefT (List ℕ) → RefT (List ℕ) → RefT (List ℕ) → Type 0
+Bettered n widths guards first second part =
+    let c = comparing n widths guards (now first) (now second) in
+    Part (cond (eqb c 2) second first) (cond (eqb c 0) 0 n) part

@@ -1,0 +1,131 @@
+-- The public calls: for each one definition from what it is given to all that it leaves behind. "A refusal leaves every lent table unchanged,
+-- except that the reader's refusals other than 2 leave its tables cleared"; "Other numbers in a refused answer are 0." Assumes nothing.
+use Prim.Native.Nat.{ℕ}
+use mathlib.Core.Bool.{Bool, cond}
+use mathlib.Core.List.{List, [], _++_}
+use lib.ListN.{length, drop}
+use lib.Dec.{eqb}
+use Rattle.rules.specs.declared.Fault.{Fault}
+use Rattle.rules.specs.declared.Judged.{Judged}
+use Rattle.rules.specs.declared.Packed.{Packed}
+use Rattle.rules.specs.declared.Sided.{Sided}
+use Rattle.rules.specs.declared.Planned.{Planned}
+use Rattle.rules.specs.declared.Floored.{Floored}
+use Rattle.rules.specs.declared.SheetRead.{SheetRead}
+use Rattle.rules.specs.declared.SheetWritten.{SheetWritten}
+use Rattle.rules.specs.Tables.{at, cleared}
+use Rattle.rules.specs.Plan.{Net, netOf, highest}
+use Rattle.rules.specs.Packing.{lowest, packed}
+use Rattle.rules.specs.Pressing.{pressed}
+use Rattle.rules.specs.Sides.{hasSides, isHigh, twoSided, lowSide}
+use Rattle.rules.specs.Planning.{Run, greedy, improved}
+use Rattle.rules.specs.Floor.{floor}
+use Rattle.rules.specs.Sheet.{Section, halt, done, sheetFrom}
+use Rattle.rules.specs.Writing.{sheetText}
+use Rattle.rules.specs.Numbers.{judgeFault, packFault, twoSidesFault, planFault, improveFault, floorFault, sheetSizes, writeFault}
+
+-- what a call leaves behind: its answer, and what then stands in the tables that it may write
+pub record Left (A T : Type 0) : Type 0 where
+  pub answer : A
+  pub tables : T
+
+abbrev pub left : {A T : Type 0} → A → T → Left A T
+left answer tables = record { answer = answer; tables = tables }
+
+-- the refusal where a test finds a fault, and otherwise what is done
+unfoldable pub unless : {A : Type 0} → Fault → (Fault → A) → A → A
+unless f refused result = cond (eqb (f .number) 0) result (refused f)
+
+-- judge(n, widths, guards, starts)
+unfoldable pub judging : ℕ → List ℕ → List ℕ → List ℕ → Judged
+judging n widths guards starts =
+    unless (judgeFault n widths guards starts)
+    (λ f. record { number = f .number; place = f .place })
+    (record { number = 0; place = 0 })
+
+-- pack(n, widths, guards, order, starts), which writes the starts; so does pressing
+unfoldable pub refusedPacked : List ℕ → Fault → Left Packed (List ℕ)
+refusedPacked starts f = left (record { number = f .number; place = f .place; highest = 0 }) starts
+
+unfoldable pub donePacked : Net → ℕ → List ℕ → Left Packed (List ℕ)
+donePacked net n starts = left (record { number = 0; place = 0; highest = highest net (at starts) n }) starts
+
+unfoldable pub packing : ℕ → List ℕ → List ℕ → List ℕ → List ℕ → Left Packed (List ℕ)
+packing n widths guards order starts =
+    unless (packFault n widths guards order starts) (refusedPacked starts)
+    (donePacked (netOf widths guards) n (packed (lowest (netOf widths guards)) (at order) starts n))
+
+-- press(n, widths, guards, starts)
+unfoldable pub pressing : ℕ → List ℕ → List ℕ → List ℕ → Left Packed (List ℕ)
+pressing n widths guards starts =
+    unless (judgeFault n widths guards starts) (refusedPacked starts)
+    (donePacked (netOf widths guards) n (pressed (netOf widths guards) n starts))
+
+-- two_sides(n, widths, guards, order), which writes the order
+unfoldable pub siding : ℕ → List ℕ → List ℕ → List ℕ → Left Sided (List ℕ)
+siding n widths guards order =
+    let high = isHigh (netOf widths guards) n in
+    unless (twoSidesFault n widths guards order)
+    (λ f. left (record { number = f .number; place = f .place; low = 0 }) order)
+    (left (record { number = 0; place = 0; low = lowSide n high }) (twoSided n high order))
+
+-- improve(n, widths, guards, order, starts, seed, rounds), which writes the order and the starts; so does planning
+unfoldable pub refusedPlanned : List ℕ → List ℕ → Fault → Left Planned (List ℕ × List ℕ)
+refusedPlanned order starts f = left (record { number = f .number; place = f .place; highest = 0; kept = 0 }) (order, starts)
+
+unfoldable pub donePlanned : Net → ℕ → List ℕ → List ℕ → ℕ → Left Planned (List ℕ × List ℕ)
+donePlanned net n order starts kept =
+    let plan = packed (lowest net) (at order) starts n in
+    left (record { number = 0; place = 0; highest = highest net (at plan) n; kept = kept }) (order, plan)
+
+unfoldable pub doneImproved : Net → ℕ → List ℕ → List ℕ → ℕ → ℕ → Left Planned (List ℕ × List ℕ)
+doneImproved net n order starts seed rounds =
+    let r = improved net n (lowest net) starts order seed rounds in
+    donePlanned net n (r .order) starts (r .kept)
+
+unfoldable pub improving : ℕ → List ℕ → List ℕ → List ℕ → List ℕ → ℕ → ℕ → Left Planned (List ℕ × List ℕ)
+improving n widths guards order starts seed rounds =
+    unless (improveFault n widths guards order starts rounds) (refusedPlanned order starts)
+    (doneImproved (netOf widths guards) n order starts seed rounds)
+
+-- plan(n, widths, guards, order, starts, seed, rounds): "the two-sided order if there are sides, with no rounds run; otherwise the greedy order,
+-- improved. It answers as improving does, with 0 kept where no rounds run."
+unfoldable pub donePlan : Net → ℕ → List ℕ → List ℕ → ℕ → ℕ → Left Planned (List ℕ × List ℕ)
+donePlan net n order starts seed rounds =
+    cond (hasSides net n)
+    (donePlanned net n (twoSided n (isHigh net n) order) starts 0)
+    (doneImproved net n (greedy (lowest net) n starts order n) starts seed rounds)
+
+unfoldable pub planning : ℕ → List ℕ → List ℕ → List ℕ → List ℕ → ℕ → ℕ → Left Planned (List ℕ × List ℕ)
+planning n widths guards order starts seed rounds =
+    unless (planFault n widths guards order starts rounds) (refusedPlanned order starts)
+    (donePlan (netOf widths guards) n order starts seed rounds)
+
+-- floor(n, widths, guards, list)
+unfoldable pub flooring : ℕ → List ℕ → List ℕ → List ℕ → Floored
+flooring n widths guards list =
+    unless (floorFault n widths guards list)
+    (λ f. record { number = f .number; place = f .place; floor = 0 })
+    (record { number = 0; place = 0; floor = floor (netOf widths guards) (at list) (length list) })
+
+-- read(text, labels, widths, guards, starts), which writes all four tables. "On success the reader also clears what lies past n": a sheet is
+-- read over cleared tables, "widths and starts 0, guards 255, labels 0", and a refusal leaves these
+unfoldable pub readOutcome : Section (ℕ × List ℕ × List ℕ × List ℕ × List ℕ) → Left SheetRead (List ℕ × List ℕ × List ℕ × List ℕ)
+readOutcome (halt number line) =
+    left (record { number = number; place = line; n = 0 }) (cleared 1024 0, cleared 128 0, cleared 16384 255, cleared 128 0)
+readOutcome (done t l) = left (record { number = 0; place = 0; n = t .0 }) (t .1, t .2, t .3, t .4)
+
+unfoldable pub reading : List ℕ → List ℕ → List ℕ → List ℕ → List ℕ → Left SheetRead (List ℕ × List ℕ × List ℕ × List ℕ)
+reading text labels widths guards starts =
+    unless (sheetSizes labels widths guards starts)
+    (λ f. left (record { number = f .number; place = f .place; n = 0 }) (labels, widths, guards, starts))
+    (readOutcome (sheetFrom (cleared 1024 0) (cleared 128 0) (cleared 16384 255) (cleared 128 0) text))
+
+-- write(n, labels, widths, guards, starts, text), which writes the text: "It answers the sheet's length and leaves the lent text past that
+-- length unchanged"
+unfoldable pub writing : ℕ → List ℕ → List ℕ → List ℕ → List ℕ → List ℕ → Left SheetWritten (List ℕ)
+writing n labels widths guards starts text =
+    let sheet = sheetText n labels widths guards starts in
+    unless (writeFault n labels widths guards starts text)
+    (λ f. left (record { number = f .number; place = f .place; length = 0 }) text)
+    (left (record { number = 0; place = 0; length = length sheet }) (sheet ++ drop (length sheet) text))

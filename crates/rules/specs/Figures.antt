@@ -1,0 +1,97 @@
+-- Document 01, "Figures to hold it against": P1 to P10 as a single table under a single statement, and the worked example of the plan
+-- program, each computed from the definitions over tables of full size. Assumes nothing.
+use Prim.Native.Nat.{ℕ}
+use mathlib.Core.Path.{_≡_, refl}
+use mathlib.Core.List.{List, [], _∷_, _++_}
+use lib.ListN.{take, set, replicate}
+use Rattle.rules.specs.declared.Packed.{Packed}
+use Rattle.rules.specs.declared.Planned.{Planned}
+use Rattle.rules.specs.declared.Judged.{Judged}
+use Rattle.rules.specs.Tables.{at, cell, cleared}
+use Rattle.rules.specs.Scan.{first, found, firstRow, foundPair, largest, least, sum}
+use Rattle.rules.specs.Plan.{netOf, highest, tooClose}
+use Rattle.rules.specs.Packing.{placed, reach, lowest, packed, height}
+use Rattle.rules.specs.Pressing.{picked, choose, arranged, pressed}
+use Rattle.rules.specs.Sides.{touches, opposite, marks, isHigh, sameMark, hasSides, twoSided, lowSide}
+use Rattle.rules.specs.Planning.{greedy, draw, drawnPlace, swapped, stateAfter, tried, round, rounds, improved}
+use Rattle.rules.specs.Floor.{leastGuard, floor}
+use Rattle.rules.specs.Text.{bytes, then, word, isDigit, isLabelByte, run, label, isPlain, valueFrom, number, spell, numeral}
+use Rattle.rules.specs.Sheet.{isRow, find, bytesFrom, putRow, follow, lines, countLine, pathLine, guardLine, pathMeans, pathStep, guardCell, guardMeans, guardStep, startMeans, startStep, counted, after, ended, startsPart, guardsPart, sheetFrom}
+use Rattle.rules.specs.Writing.{labelOf, badLabel, labelTwice, isPair, pairs, hasPlan, joinFrom, countText, pathText, guardText, pathsText, guardsText, startsText, sheetText}
+use Rattle.rules.specs.Numbers.{refuseIf, _orElse_, scan, square, countFault, sizeFault, orderFault, startFault, clashFault, sidesFault, roundsFault, listFault, networkFault, networkSizes, judgeFault, packFault, twoSidesFault, planFault, improveFault, floorFault, sheetSizes, writeFault}
+use Rattle.rules.specs.Calls.{Left, unless, judging, refusedPacked, donePacked, packing, pressing, siding, refusedPlanned, donePlanned, doneImproved, improving, donePlan, planning, flooring, readOutcome, reading, writing}
+use Rattle.rules.specs.Program.{refusalText, plannedText, printed}
+
+-- a guard table with the guard g of i and j, in both cells
+unfoldable pub withGuard : ℕ → ℕ → ℕ → List ℕ → List ℕ
+withGuard i j g guards = set (set guards (cell i j) g) (cell j i) g
+
+-- "T: widths 2, 4, 3; guards 0-1 is 1, 1-2 is 2, 0-2 is 0"
+unfoldable pub widthsT : List ℕ
+widthsT = 2 ∷ 4 ∷ 3 ∷ replicate 125 0
+
+unfoldable pub guardsT : List ℕ
+guardsT = withGuard 0 1 1 (withGuard 1 2 2 (withGuard 0 2 0 (cleared 16384 255)))
+
+-- three cells, and the rest of a table of 128
+unfoldable pub three : ℕ → ℕ → ℕ → List ℕ
+three a b c = a ∷ b ∷ c ∷ replicate 125 0
+
+-- what is compared of an answer: its numbers, and the first three cells of what it wrote
+packedRow : Left Packed (List ℕ) → List ℕ
+packedRow r = r .answer .number ∷ r .answer .place ∷ r .answer .highest ∷ take 3 (r .tables)
+
+plannedRow : Left Planned (List ℕ × List ℕ) → List ℕ
+plannedRow r = r .answer .number ∷ r .answer .place ∷ r .answer .highest ∷ r .answer .kept ∷ take 3 (r .tables .0) ++ take 3 (r .tables .1)
+
+judgedRow : Judged → List ℕ
+judgedRow r = r .number ∷ r .place ∷ []
+
+packT : List ℕ → List ℕ
+packT order = packedRow (packing 3 widthsT guardsT order (three 0 0 0))
+
+-- the greedy order of T, by document 01's packing
+greedyT : List ℕ
+greedyT = greedy (lowest (netOf widthsT guardsT)) 3 (three 0 0 0) (three 0 0 0) 3
+
+-- P8: "Widths 2 and 2, guard 1"
+judgeTwo : ℕ → ℕ → List ℕ
+judgeTwo a b = judgedRow (judging 2 (three 2 2 0) (withGuard 0 1 1 (cleared 16384 255)) (three a b 0))
+
+-- two draws from a seed, and the places that they take among n paths
+draws : ℕ → ℕ → List ℕ
+draws n seed = draw seed ∷ draw (draw seed) ∷ drawnPlace n (draw seed) ∷ drawnPlace n (draw (draw seed)) ∷ []
+
+figures :
+    (packT (three 0 1 2)
+    ∷ packT (three 2 1 0)
+    ∷ packT (three 1 0 2)
+    ∷ (take 3 greedyT ++ packT greedyT)
+    ∷ packedRow (pressing 3 widthsT guardsT (three 20 10 30))
+    ∷ (siding 3 widthsT guardsT (three 0 0 0) .answer .number ∷ [])
+    ∷ (draws 3 1 ++ plannedRow (improving 3 widthsT guardsT (three 0 2 1) (three 0 0 0) 1 1))
+    ∷ (judgeTwo 1 4 ++ judgeTwo 1 3)
+    ∷ draws 4 0
+    ∷ (flooring 3 widthsT guardsT (0 ∷ 1 ∷ 2 ∷ []) .floor ∷ [])
+    ∷ [])
+    ≡ (0 ∷ 0 ∷ 12 ∷ 1 ∷ 4 ∷ 10 ∷ [])
+    ∷ (0 ∷ 0 ∷ 12 ∷ 11 ∷ 6 ∷ 1 ∷ [])
+    ∷ (0 ∷ 0 ∷ 10 ∷ 6 ∷ 1 ∷ 8 ∷ [])
+    ∷ (0 ∷ 2 ∷ 1 ∷ 0 ∷ 0 ∷ 11 ∷ 1 ∷ 8 ∷ 3 ∷ [])
+    ∷ (0 ∷ 0 ∷ 10 ∷ 6 ∷ 1 ∷ 8 ∷ [])
+    ∷ (9 ∷ [])
+    ∷ (1015568748 ∷ 1586005467 ∷ 0 ∷ 1 ∷ 0 ∷ 0 ∷ 10 ∷ 1 ∷ 2 ∷ 0 ∷ 1 ∷ 4 ∷ 7 ∷ 1 ∷ [])
+    ∷ (0 ∷ 0 ∷ 8 ∷ 1 ∷ [])
+    ∷ (0x3C6EF35F ∷ 0x47502932 ∷ 0 ∷ 1 ∷ [])
+    ∷ (9 ∷ [])
+    ∷ []
+unfolding withGuard widthsT guardsT three packedRow plannedRow judgedRow packT greedyT judgeTwo draws cleared first found firstRow foundPair largest least sum highest tooClose placed reach lowest packed height picked choose arranged pressed touches opposite marks isHigh sameMark hasSides twoSided lowSide draw drawnPlace swapped stateAfter tried round rounds improved leastGuard floor refuseIf _orElse_ scan square countFault sizeFault orderFault startFault clashFault sidesFault roundsFault listFault networkFault networkSizes judgeFault packFault twoSidesFault planFault improveFault floorFault unless judging refusedPacked donePacked packing pressing siding refusedPlanned donePlanned doneImproved improving flooring
+figures = refl
+
+-- the worked example of the plan program, and a sheet that is refused
+worked : List ℕ
+worked = bytes "paths 3\n0417 2\n417 4\nA9 3\nguards 2\n0417 417 1\n417 A9 2\n"
+
+program : (printed worked ∷ printed (bytes "paths 1\nA 1\nguards 01\n") ∷ []) ≡ (worked ++ bytes "starts 3\n0417 1\n417 6\nA9 1\n") ∷ bytes "refused 11 line 3\n" ∷ []
+unfolding worked cleared first found firstRow foundPair largest least sum highest placed reach lowest packed height picked choose arranged touches opposite marks isHigh sameMark hasSides twoSided draw drawnPlace swapped stateAfter tried round rounds improved then word isDigit isLabelByte run label isPlain valueFrom number spell numeral isRow find bytesFrom putRow follow lines countLine pathLine guardLine pathMeans pathStep guardCell guardMeans guardStep startMeans startStep counted after ended startsPart guardsPart sheetFrom labelOf badLabel labelTwice isPair pairs hasPlan joinFrom countText pathText guardText pathsText guardsText startsText sheetText refuseIf _orElse_ scan square countFault sizeFault roundsFault networkFault networkSizes planFault sheetSizes writeFault unless refusedPlanned donePlanned doneImproved donePlan planning readOutcome reading writing refusalText plannedText printed
+program = refl

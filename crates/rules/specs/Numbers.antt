@@ -1,0 +1,143 @@
+-- Document 01, "Numbers returned": each test with its number and place, and the order of the tests of each call. Assumes nothing.
+use Prim.Native.Nat.{ℕ, _+_, _*_}
+use mathlib.Core.Bool.{Bool, cond, not, _&&_, _||_}
+use mathlib.Core.List.{List}
+use lib.ListN.{length}
+use lib.Dec.{ltb, leb, eqb}
+use Rattle.rules.specs.declared.Fault.{Fault}
+use Rattle.rules.specs.Tables.{at, cell}
+use Rattle.rules.specs.Scan.{first, found, firstRow, foundPair}
+use Rattle.rules.specs.Plan.{Net, netOf, inConflict, tooClose}
+use Rattle.rules.specs.Packing.{placed}
+use Rattle.rules.specs.Sides.{hasSides}
+use Rattle.rules.specs.Writing.{badLabel, labelTwice, pairs, hasPlan, sheetText}
+
+infixr 20 _orElse_
+abbrev pub fault : ℕ → ℕ → Fault
+fault number place = record { number = number; place = place }
+
+-- "0: done", place 0
+abbrev pub noFault : Fault
+noFault = fault 0 0
+
+-- a number where a test fails, with its place
+unfoldable pub refuseIf : Bool → ℕ → ℕ → Fault
+refuseIf bad number place = cond bad (fault number place) noFault
+
+-- the first of two tests that finds a fault
+unfoldable pub _orElse_ : Fault → Fault → Fault
+a orElse b = cond (eqb (a .number) 0) b a
+
+-- "each scan goes from the lowest index, by i then j": the fault at the first bad index below n; at the first bad cell of the square
+unfoldable pub scan : ℕ → (ℕ → Bool) → ℕ → Fault
+scan number bad n = refuseIf (found bad n) number (first bad n)
+
+unfoldable pub square : ℕ → (ℕ → ℕ → Bool) → ℕ → Fault
+square number bad n = refuseIf (foundPair bad n) number (cell (firstRow bad n) (first (bad (firstRow bad n)) n))
+
+abbrev pub outside : ℕ → ℕ → ℕ → Bool
+outside least most x = ltb x least || ltb most x
+
+-- 1: n not 1 to 128
+unfoldable pub countFault : ℕ → Fault
+countFault n = refuseIf (outside 1 128 n) 1 0
+
+-- 2: a lent table is not of its size
+unfoldable pub sizeFault : List ℕ → ℕ → Fault
+sizeFault table size = refuseIf (not (eqb (length table) size)) 2 0
+
+-- 3: width not 1 to 64
+abbrev pub badWidth : List ℕ → ℕ → Bool
+badWidth widths k = outside 1 64 (at widths k)
+
+-- 4: guard cell not 0 to 32 or 255, diagonal not 255
+abbrev pub badGuard : List ℕ → ℕ → ℕ → Bool
+badGuard guards i j = not (eqb (at guards (cell i j)) 255) && (eqb i j || ltb 32 (at guards (cell i j)))
+
+-- 5: cell with i<j unequal to its mirror
+abbrev pub badMirror : List ℕ → ℕ → ℕ → Bool
+badMirror guards i j = ltb i j && not (eqb (at guards (cell i j)) (at guards (cell j i)))
+
+-- 6: order entry n or more, or seen earlier
+abbrev pub badEntry : ℕ → List ℕ → ℕ → Bool
+badEntry n order k = leb n (at order k) || placed (at order) k (at order k)
+
+unfoldable pub orderFault : ℕ → List ℕ → Fault
+orderFault n order = scan 6 (badEntry n order) n
+
+-- 7: start not 1 to 16,384
+abbrev pub badStart : List ℕ → ℕ → Bool
+badStart starts k = outside 1 16384 (at starts k)
+
+unfoldable pub startFault : ℕ → List ℕ → Fault
+startFault n starts = scan 7 (badStart starts) n
+
+-- 8: first conflicting pair, i<j, too close
+unfoldable pub clashFault : ℕ → Net → List ℕ → Fault
+clashFault n net starts = square 8 (tooClose net (at starts)) n
+
+-- 9: no two sides
+unfoldable pub sidesFault : ℕ → Net → Fault
+sidesFault n net = refuseIf (not (hasSides net n)) 9 0
+
+-- 10: rounds over 10,000
+unfoldable pub roundsFault : ℕ → Fault
+roundsFault rounds = refuseIf (ltb 10000 rounds) 10 0
+
+-- 15: list empty or over 8, place 0; or entry out of range, repeated or not in conflict with an earlier one
+abbrev pub badMember : ℕ → Net → List ℕ → ℕ → Bool
+badMember n net list k = leb n (at list k) || found (λ i. eqb (at list i) (at list k) || not (inConflict net (at list i) (at list k))) k
+
+unfoldable pub listFault : ℕ → Net → List ℕ → Fault
+listFault n net list = refuseIf (outside 1 8 (length list)) 15 0 orElse scan 15 (badMember n net list) (length list)
+
+-- "Order for table calls: 2, 1, 3, 4, 5, then 6, 7, 8, 10, 15, 9 where they apply"; "4 is scanned over the whole square before 5"
+unfoldable pub networkFault : ℕ → List ℕ → List ℕ → Fault
+networkFault n widths guards = countFault n orElse scan 3 (badWidth widths) n orElse square 4 (badGuard guards) n orElse square 5 (badMirror guards) n
+
+unfoldable pub networkSizes : List ℕ → List ℕ → Fault
+networkSizes widths guards = sizeFault widths 128 orElse sizeFault guards 16384
+
+-- judging and pressing
+unfoldable pub judgeFault : ℕ → List ℕ → List ℕ → List ℕ → Fault
+judgeFault n widths guards starts =
+    networkSizes widths guards orElse sizeFault starts 128 orElse networkFault n widths guards
+    orElse startFault n starts orElse clashFault n (netOf widths guards) starts
+
+-- packing
+unfoldable pub packFault : ℕ → List ℕ → List ℕ → List ℕ → List ℕ → Fault
+packFault n widths guards order starts =
+    networkSizes widths guards orElse sizeFault order 128 orElse sizeFault starts 128 orElse networkFault n widths guards
+    orElse orderFault n order
+
+-- the two-sided call
+unfoldable pub twoSidesFault : ℕ → List ℕ → List ℕ → List ℕ → Fault
+twoSidesFault n widths guards order =
+    networkSizes widths guards orElse sizeFault order 128 orElse networkFault n widths guards
+    orElse sidesFault n (netOf widths guards)
+
+-- planning, which tests neither the lent order nor the starts
+unfoldable pub planFault : ℕ → List ℕ → List ℕ → List ℕ → List ℕ → ℕ → Fault
+planFault n widths guards order starts rounds =
+    networkSizes widths guards orElse sizeFault order 128 orElse sizeFault starts 128 orElse networkFault n widths guards
+    orElse roundsFault rounds
+
+-- improving
+unfoldable pub improveFault : ℕ → List ℕ → List ℕ → List ℕ → List ℕ → ℕ → Fault
+improveFault n widths guards order starts rounds = packFault n widths guards order starts orElse roundsFault rounds
+
+-- the floor
+unfoldable pub floorFault : ℕ → List ℕ → List ℕ → List ℕ → Fault
+floorFault n widths guards list =
+    networkSizes widths guards orElse networkFault n widths guards orElse listFault n (netOf widths guards) list
+
+-- "The writer: 2, 1 for n, 3, 4, 5, 11, 12, 1 for pairs, 7, 16." It tests the starts only where it writes them
+unfoldable pub sheetSizes : List ℕ → List ℕ → List ℕ → List ℕ → Fault
+sheetSizes labels widths guards starts = sizeFault labels 1024 orElse networkSizes widths guards orElse sizeFault starts 128
+
+unfoldable pub writeFault : ℕ → List ℕ → List ℕ → List ℕ → List ℕ → List ℕ → Fault
+writeFault n labels widths guards starts text =
+    sheetSizes labels widths guards starts orElse networkFault n widths guards
+    orElse scan 11 (badLabel labels) n orElse scan 12 (labelTwice labels) n orElse refuseIf (ltb 2000 (pairs n guards)) 1 0
+    orElse scan 7 (λ k. hasPlan n starts && badStart starts k) n
+    orElse refuseIf (ltb (length text) (length (sheetText n labels widths guards starts))) 16 0

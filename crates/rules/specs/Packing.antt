@@ -1,0 +1,51 @@
+-- Document 01, "Packing an order". An order is the function from a position to the path that stands there. Assumes nothing.
+use Prim.Native.Nat.{ℕ, zero, suc, _+_, _≤_, _<_, max}
+use mathlib.Core.Path.{_≡_}
+use mathlib.Core.Logic.{_≢_}
+use mathlib.Core.Bool.{Bool, cond}
+use mathlib.Core.List.{List}
+use lib.ListN.{set}
+use lib.Dec.{eqb}
+use Rattle.rules.specs.Tables.{at}
+use Rattle.rules.specs.Scan.{found}
+use Rattle.rules.specs.Plan.{Net, inConflict, end, highest}
+
+-- path k is among the first m of an order
+unfoldable pub placed : (ℕ → ℕ) → ℕ → ℕ → Bool
+placed order m k = found (λ i. eqb (order i) k) m
+
+-- "the first n hold each of 0 to n-1 once", as it is tested: the first m entries are below n and none equals an earlier one. In a whole order m is n
+pub record Order (order : ℕ → ℕ) (n m : ℕ) : Type 0 where
+  pub inside : (i : ℕ) → i < m → order i < n
+  pub fresh : (i j : ℕ) → i < j → j < m → order i ≢ order j
+
+-- those words themselves
+pub record Once (order : ℕ → ℕ) (n : ℕ) : Type 0 where
+  pub holds : (k : ℕ) → k < n → (i : ℕ) × (i < n) × (order i ≡ k)
+  pub once : (i j : ℕ) → i < n → j < n → order i < n → order i ≡ order j → i ≡ j
+
+-- a rule of packing: the start of path k, when the first m of an order stand as in a plan
+abbrev pub Rule : Type 0
+Rule = (ℕ → ℕ) → (ℕ → ℕ) → ℕ → ℕ → ℕ
+
+-- end + guard + 1: the first slot past path j at s and its guard towards k
+abbrev pub past : Net → ℕ → ℕ → ℕ → ℕ
+past net j k s = end net j s + net .guard j k + 1
+
+-- what path j at s asks of path k: 0 where they are not in conflict
+unfoldable pub reach : Net → ℕ → ℕ → ℕ → ℕ
+reach net j k s = cond (inConflict net j k) (past net j k s) 0
+
+-- "each start is the largest of 1 and end + guard + 1 over the conflicting paths earlier in it"
+unfoldable pub lowest : Net → Rule
+lowest net plan order zero k = net .low k
+lowest net plan order (suc m) k = max (lowest net plan order m k) (reach net (order m) k (plan (order m)))
+
+-- "in that order": the table with the starts of the first m paths of the order, by a rule
+unfoldable pub packed : Rule → (ℕ → ℕ) → List ℕ → ℕ → List ℕ
+packed rule order table zero = table
+packed rule order table (suc m) = let s = packed rule order table m in set s (order m) (rule (at s) order m (order m))
+
+-- the highest slot of an order packed by a rule into a table
+unfoldable pub height : Net → ℕ → Rule → List ℕ → List ℕ → ℕ
+height net n rule table order = highest net (at (packed rule (at order) table n)) n

@@ -1,0 +1,91 @@
+// Document 01's limits, and what each public call answers. The rules themselves stand in specs/.
+
+// Tables and their sizes: every table has one fixed size, whatever n is.
+pub const PATHS: usize = 128;
+
+pub const CELLS: usize = 16384;
+
+pub const LABEL: usize = 8;
+
+pub const LABELS: usize = 1024;
+
+// What a cell may hold.
+pub const WIDTH_MOST: u16 = 64;
+
+pub const GUARD_MOST: u8 = 32;
+
+pub const NO_CONFLICT: u8 = 255;
+
+pub const START_MOST: u16 = 16384;
+
+// What a call may be given.
+pub const ROUNDS_MOST: usize = 10000;
+
+pub const LIST_MOST: usize = 8;
+
+pub const PAIRS_MOST: usize = 2000;
+
+pub const SHEET_MOST: usize = 45489;
+
+// A refusal: its number and its place. 0 and 0 where nothing is at fault.
+#[repr(C)]
+pub struct Fault {
+    pub number: usize,
+    pub place: usize,
+}
+
+// Judging answers the number and place alone.
+#[repr(C)]
+pub struct Judged {
+    pub number: usize,
+    pub place: usize,
+}
+
+// Packing and pressing answer the starts, in their table, and the highest slot.
+#[repr(C)]
+pub struct Packed {
+    pub number: usize,
+    pub place: usize,
+    pub highest: usize,
+}
+
+// The two-sided call answers the order, in its table, and the size of the low side.
+#[repr(C)]
+pub struct Sided {
+    pub number: usize,
+    pub place: usize,
+    pub low: usize,
+}
+
+// Planning and improving answer the order and its starts, in their tables, its highest slot and the number of swaps kept.
+#[repr(C)]
+pub struct Planned {
+    pub number: usize,
+    pub place: usize,
+    pub highest: usize,
+    pub kept: usize,
+}
+
+// The floor of a list of paths.
+#[repr(C)]
+pub struct Floored {
+    pub number: usize,
+    pub place: usize,
+    pub floor: usize,
+}
+
+// The reader answers the number of paths.
+#[repr(C)]
+pub struct SheetRead {
+    pub number: usize,
+    pub place: usize,
+    pub n: usize,
+}
+
+// The writer answers the sheet's length.
+#[repr(C)]
+pub struct SheetWritten {
+    pub number: usize,
+    pub place: usize,
+    pub length: usize,
+}
