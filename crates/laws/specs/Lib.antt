@@ -1,0 +1,14 @@
+pub mod Count
+pub mod Scans
+pub mod Tables
+pub mod Good
+pub mod Pack
+pub mod Orders
+pub mod Lowest
+pub mod Plans
+pub mod Press
+pub mod Mirror
+pub mod Floor
+pub mod Bound
+pub mod Improve
+pub mod Faults
