@@ -15,3 +15,5 @@ pub mod Faults
 pub mod Judge
 pub mod TwoSided
 pub mod Finding
+pub mod Limits
+pub mod Answers
