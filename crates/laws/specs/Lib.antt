@@ -17,3 +17,7 @@ pub mod TwoSided
 pub mod Finding
 pub mod Limits
 pub mod Answers
+pub mod OnJudging
+pub mod OnPacking
+pub mod OnGreedy
+pub mod OnImproving
