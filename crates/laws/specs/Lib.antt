@@ -21,3 +21,7 @@ pub mod OnJudging
 pub mod OnPacking
 pub mod OnGreedy
 pub mod OnImproving
+pub mod OnSiding
+pub mod OnPlanning
+pub mod OnPressing
+pub mod OnFlooring
