@@ -23,7 +23,7 @@ use Rattle.rules.specs.Pressing.{pressed}
 use Rattle.rules.specs.Sides.{hasSides, isHigh, twoSided, lowSide}
 use Rattle.rules.specs.Floor.{Clique, floor}
 use Rattle.rules.specs.Numbers.{noFault, refuseIf, _orElse_, scan, outside, sizeFault, badMember, orderFault, startFault, clashFault, sidesFault, roundsFault, listFault, networkFault, networkSizes, judgeFault, packFault, twoSidesFault, planFault, improveFault, floorFault}
-use Rattle.rules.specs.Calls.{Left, left, unless, judging, refusedPacked, donePacked, packing, pressing, siding, refusedPlanned, doneImproved, improving, donePlan, planning, flooring}
+use Rattle.rules.specs.Calls.{Left, left, unless, judging, refusedPacked, donePacked, packing, pressing, siding, refusedPlanned, donePlanned, doneImproved, improving, donePlan, planning, flooring}
 use Rattle.laws.specs.Scans.{found-not}
 use Rattle.laws.specs.Faults.{refuse-bad, refuse-not, refuse-clear, or-second, or-clear, or-none, or-past, never-sizes, never-size, never-network, scan-clear, size-good, size-clear}
 use Rattle.laws.specs.Limits.{network-within, within-network, outside-not, order-whole, whole-order, starts-within, within-starts, clash-valid, valid-clash}
@@ -220,6 +220,10 @@ module _ (n : ℕ) (widths guards order starts : List ℕ) (seed rounds : ℕ) w
   packable-improving p l =
       unless-done (packFault n widths guards order starts orElse refuseIf (ltb 10000 rounds) 10 0) (refusedPlanned order starts) _
       (or-none _ _ (clear-pack n widths guards order starts p) (ap (λ (x : Fault). x .number) (refuse-not (ltb 10000 rounds) 10 0 (le-ltb 10000 rounds l))))
+
+  pub packable-improves : Packable n widths guards order starts → rounds ≤ 10000 → improving n widths guards order starts seed rounds .answer .number ≡ 0
+  unfolding doneImproved donePlanned
+  packable-improves p l = ap (λ (r : Left Planned (List ℕ × List ℕ)). r .answer .number) (packable-improving p l)
 
   pub record Plannable : Type 0 where
     pub network : Network n widths guards

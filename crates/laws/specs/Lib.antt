@@ -25,3 +25,6 @@ pub mod OnSiding
 pub mod OnPlanning
 pub mod OnPressing
 pub mod OnFlooring
+pub mod OneAnswer
+pub mod Witness
+pub mod Unfit

@@ -112,9 +112,9 @@ unfolding networkSizes networkFault countFault
 within-network n widths guards w = (
   or-none _ _ (clear-of (sym (size-good widths 128 (w .widthsSize)))) (clear-of (sym (size-good guards 16384 (w .guardsSize)))),
   or-none _ _ (clear-of (refuse-not (outside 1 128 n) 1 0 (outside-none 1 128 n (w .some) (w .few))))
-    (or-none _ _ (clear-of (scan-none 3 (badWidth widths) n (λ k l. outside-none 1 64 (at widths k) (w .width k l .0) (w .width k l .1))))
-    (or-none _ _ (clear-of (square-none 4 (badGuard guards) n (λ i j l g. guard-fits guards i j (w .guard i j l g) (λ e. subst (λ x. at guards (cell i x) ≡ 255) e (w .diagonal i l)))))
-    (clear-of (square-none 5 (badMirror guards) n (λ i j l g. mirror-fits guards i j (w .mirrored i j l g))))))
+      (or-none _ _ (clear-of (scan-none 3 (badWidth widths) n (λ k l. outside-none 1 64 (at widths k) (w .width k l .0) (w .width k l .1))))
+      (or-none _ _ (clear-of (square-none 4 (badGuard guards) n (λ i j l g. guard-fits guards i j (w .guard i j l g) (λ e. subst (λ x. at guards (cell i x) ≡ 255) e (w .diagonal i l)))))
+      (clear-of (square-none 5 (badMirror guards) n (λ i j l g. mirror-fits guards i j (w .mirrored i j l g)))))),
 )
 
 -- a network within the limits has what the theorems ask

@@ -19,13 +19,13 @@ pub judging-exact : (n : ℕ) (widths guards starts : List ℕ)
     → (judging n widths guards starts .number ≡ 0) ↔ (Network n widths guards × Starts n starts × Published (netOf widths guards) n (at starts))
 judging-exact n widths guards starts = (
   λ z.
-    let j = judging-judgeable n widths guards starts z in
-    let g = network-good n widths guards (j .network) in
-    (j .network, j .legal, valid-published (netOf widths guards) (at starts) n (g .wide) (g .mirrored) (j .valid)),
+      let j = judging-judgeable n widths guards starts z in
+      let g = network-good n widths guards (j .network) in
+      (j .network, j .legal, valid-published (netOf widths guards) (at starts) n (g .wide) (g .mirrored) (j .valid)),
   λ h.
-    let g = network-good n widths guards (h .0) in
-    judgeable-judging n widths guards starts
-    (record { network = h .0; legal = h .1; valid = published-valid (netOf widths guards) (at starts) n (g .wide) (g .mirrored) (h .2) }),
+      let g = network-good n widths guards (h .0) in
+      judgeable-judging n widths guards starts
+      (record { network = h .0; legal = h .1; valid = published-valid (netOf widths guards) (at starts) n (g .wide) (g .mirrored) (h .2) }),
 )
 
 -- 6 refuses exactly the orders of which the first n do not hold each of 0 to n-1 once

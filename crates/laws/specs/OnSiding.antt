@@ -122,8 +122,8 @@ module _ (n : ℕ) (widths guards order : List ℕ) where
   pub nine-exact : (siding n widths guards order .answer .number ≡ 9) ↔ (Sidable n widths guards order × ((high : ℕ → Bool) → Split net n high → ⊥))
   nine-exact = (
     λ z.
-      let s = siding-nine n widths guards order z in
-      (s .0, λ high split. true≢false (sym (found-all net n (s .0 .network .few) (network-good n widths guards (s .0 .network)) high split) ∙ s .1)),
+        let s = siding-nine n widths guards order z in
+        (s .0, λ high split. true≢false (sym (found-all net n (s .0 .network .few) (network-good n widths guards (s .0 .network)) high split) ∙ s .1)),
     λ h. sidable-number n widths guards order (h .0) ∙ go (h .0) (h .1) (hasSides net n) refl,
   )
     where

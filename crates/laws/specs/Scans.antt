@@ -150,6 +150,11 @@ unfolding sum
 sum-ge f a zero h = omega arith
 sum-ge f a (suc k) h = omega (arith, sum-ge f a k (λ i l. h i (omega arith)), h k (omega arith))
 
+pub sum-same : (f g : ℕ → ℕ) (n : ℕ) → ((k : ℕ) → k < n → f k ≡ g k) → sum f n ≡ sum g n
+unfolding sum
+sum-same f g zero h = refl
+sum-same f g (suc n) h = omega (arith, sum-same f g n (λ k l. h k (omega arith)), h n (omega arith))
+
 -- ones among the first i alone add up to at most i; ones at each of the first i, to i at least
 sum-all : (f : ℕ → ℕ) (m : ℕ) → ((j : ℕ) → f j ≤ 1) → sum f m ≤ m
 unfolding sum
