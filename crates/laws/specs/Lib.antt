@@ -12,3 +12,6 @@ pub mod Floor
 pub mod Bound
 pub mod Improve
 pub mod Faults
+pub mod Updates
+pub mod Marks
+pub mod Accepted
