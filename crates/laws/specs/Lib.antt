@@ -28,3 +28,6 @@ pub mod OnFlooring
 pub mod OneAnswer
 pub mod Witness
 pub mod Unfit
+pub mod Updates
+pub mod Marks
+pub mod Accepted
