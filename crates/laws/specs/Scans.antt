@@ -186,3 +186,12 @@ sum-ones f (suc i) h = omega (arith, sum-ones f i (λ j l. h j (omega arith)), h
 
 pub sum-many : (f : ℕ → ℕ) (i m : ℕ) → i ≤ m → ((j : ℕ) → j < i → f j ≡ 1) → i ≤ sum f m
 sum-many f i m l h = omega (arith, sum-rises f i m l, sum-ones f i h)
+
+-- for the code: one index more
+pub least-next : (d : ℕ) (f : ℕ → ℕ) (n r v : ℕ) → r ≡ least d f n → v ≡ f n → min r v ≡ least d f (suc n)
+unfolding least
+least-next d f n r v e g = rw (e, g)
+
+pub sum-next : (f : ℕ → ℕ) (n r v : ℕ) → r ≡ sum f n → v ≡ f n → r + v ≡ sum f (suc n)
+unfolding sum
+sum-next f n r v e g = rw (e, g)

@@ -1,0 +1,140 @@
+// The floor of a list of paths, all in conflict with each other: its widths added, plus k-1 times the least guard among them.
+use rules::Fault;
+ghost use mathlib.Core.Path.{_≡_};
+ghost use mathlib.Core.List.{List};
+ghost use Prim.Native.Nat.{ℕ, _+_, _*_, _≤_, _<_, min};
+ghost use lib.ListN.{length};
+ghost use Rattle.rules.specs.Tables.{at, cell};
+ghost use Rattle.rules.specs.Scan.{found, least, sum};
+ghost use Rattle.rules.specs.Plan.{netOf};
+ghost use Rattle.rules.specs.Numbers.{scan, badMember, listFault};
+ghost use Rattle.rules.specs.Floor.{leastGuard};
+ghost use Rattle.planning.specs.Listed.{Listed, stranger};
+
+// The path at a position of a list.
+pub fn path_at(list: &[u8], i: usize) -> usize
+    requires { ⌜ i < length (now list) ⌝ }
+    ensures { λ r. ⌜ r ≡ at (now (list .entry)) i ⌝ }
+{
+    list[i] as usize
+}
+
+// The guard of the paths at two positions.
+fn guard_of(guards: &[u8], list: &[u8], i: usize, j: usize) -> u8
+    requires { ⌜ (i < j) × Listed (now guards) (now list) (j + 1) ⌝ }
+    ensures { λ r. ⌜ r ≡ at (now (guards .entry)) (cell (at (now (list .entry)) i) (at (now (list .entry)) j)) ⌝ }
+{
+    let a = path_at(list, i);
+    let b = path_at(list, j);
+    guards[128 * a + b]
+}
+
+// "repeated or not in conflict with an earlier one", of two positions.
+fn is_stranger(guards: &[u8], list: &[u8], i: usize, j: usize) -> bool
+    requires { ⌜ (i < j) × Listed (now guards) (now list) (j + 1) ⌝ }
+    ensures { λ r. ⌜ r ≡ stranger (now (guards .entry)) (now (list .entry)) j i ⌝ }
+{
+    if path_at(list, i) == path_at(list, j) {
+        return true;
+    }
+    let g = guard_of(guards, list, i, j);
+    rules::NO_CONFLICT <= g
+}
+
+// The same, of a position and all before it.
+fn has_stranger(guards: &[u8], list: &[u8], j: usize) -> bool
+    requires { ⌜ Listed (now guards) (now list) (j + 1) ⌝ }
+    ensures { λ r. ⌜ r ≡ found (stranger (now (guards .entry)) (now (list .entry)) j) j ⌝ }
+{
+    let mut i: usize = 0;
+    while i < j {
+        if is_stranger(guards, list, i, j) {
+            return true;
+        }
+        i += 1;
+    }
+    false
+}
+
+// 15, past the length: the first position whose entry is n or more, repeated, or not in conflict with an earlier one.
+fn member_fault(n: usize, guards: &[u8], list: &[u8]) -> Fault
+    requires { ⌜ (n ≤ 128) × (length (now guards) ≡ 16384) ⌝ }
+    ensures { λ r. ⌜ ((widths : List ℕ) → r ≡ scan 15 (badMember n (netOf widths (now (guards .entry))) (now (list .entry))) (length (now (list .entry)))) ⌝ }
+{
+    let mut k: usize = 0;
+    while k < list.len() {
+        if n <= path_at(list, k) {
+            return tables::refused(15, k);
+        }
+        if has_stranger(guards, list, k) {
+            return tables::refused(15, k);
+        }
+        k += 1;
+    }
+    tables::accepted()
+}
+
+// 15: the list is empty or over 8, place 0; or one of its entries is at fault.
+pub fn list_fault(n: usize, guards: &[u8], list: &[u8]) -> Fault
+    requires { ⌜ (n ≤ 128) × (length (now guards) ≡ 16384) ⌝ }
+    ensures { λ r. ⌜ ((widths : List ℕ) → r ≡ listFault n (netOf widths (now (guards .entry))) (now (list .entry))) ⌝ }
+{
+    if list.len() < 1 {
+        return tables::refused(15, 0);
+    }
+    if rules::LIST_MOST < list.len() {
+        return tables::refused(15, 0);
+    }
+    member_fault(n, guards, list)
+}
+
+fn smaller(a: u8, b: u8) -> u8
+    ensures { λ r. ⌜ r ≡ min a b ⌝ }
+{
+    if b < a { b } else { a }
+}
+
+// The least guard between the path at position j and those before it.
+fn least_before(guards: &[u8], list: &[u8], j: usize) -> u8
+    requires { ⌜ Listed (now guards) (now list) (j + 1) ⌝ }
+    ensures { λ r. ⌜ r ≡ least 255 (λ i. at (now (guards .entry)) (cell (at (now (list .entry)) i) (at (now (list .entry)) j))) j ⌝ }
+{
+    let mut g: u8 = 255;
+    let mut i: usize = 0;
+    while i < j {
+        let h = guard_of(guards, list, i, j);
+        g = smaller(g, h);
+        i += 1;
+    }
+    g
+}
+
+// The least guard among the paths of the list; 255 where there are no two.
+fn least_guard(guards: &[u8], list: &[u8]) -> u8
+    requires { ⌜ Listed (now guards) (now list) (length (now list)) ⌝ }
+    ensures { λ r. ⌜ ((widths : List ℕ) → r ≡ leastGuard (netOf widths (now (guards .entry))) (at (now (list .entry))) (length (now (list .entry)))) ⌝ }
+{
+    let mut g: u8 = 255;
+    let mut j: usize = 0;
+    while j < list.len() {
+        let h = least_before(guards, list, j);
+        g = smaller(g, h);
+        j += 1;
+    }
+    g
+}
+
+// The widths of the paths of the list, added.
+fn widths_added(widths: &[u16], list: &[u8]) -> usize
+    requires { ⌜ (length (now widths) ≡ 128) × ((length (now list) ≤ 8) × ((i : ℕ) → i < length (now list) → (at (now list) i < 128) × (at (now widths) (at (now list) i) ≤ 64))) ⌝ }
+    ensures { λ r. ⌜ (r ≡ sum (λ i. at (now (widths .entry)) (at (now (list .entry)) i)) (length (now (list .entry)))) × (r ≤ 512) ⌝ }
+{
+    let mut w: usize = 0;
+    let mut i: usize = 0;
+    while i < list.len() {
+        let k = path_at(list, i);
+        w += widths[k] as usize;
+        i += 1;
+    }
+    w
+}

@@ -1,0 +1,3 @@
+// Planning: the two sides, the greedy order, improving, and the floor (document 01, "Rules of a plan").
+mod draws;
+mod cliques;
