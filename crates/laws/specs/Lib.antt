@@ -15,3 +15,7 @@ pub mod Faults
 pub mod Updates
 pub mod Marks
 pub mod Accepted
+pub mod Engine
+pub mod Arranging
+pub mod Answers
+pub mod Clash
