@@ -13,7 +13,7 @@ use Rattle.rules.specs.declared.Fault.{Fault}
 use Rattle.rules.specs.Tables.{at, cell}
 use Rattle.rules.specs.Plan.{netOf}
 use Rattle.rules.specs.Packing.{Order, placed}
-use Rattle.rules.specs.Numbers.{outside, countFault, networkSizes, badWidth, badGuard, badMirror, badEntry, badStart, orderFault, startFault, networkFault}
+use Rattle.rules.specs.Numbers.{refuseIf, outside, countFault, sizeFault, networkSizes, badWidth, badGuard, badMirror, badEntry, badStart, orderFault, startFault, networkFault}
 use Rattle.laws.specs.Faults.{refuse-clear, or-clear, scan-clear, square-clear, size-clear}
 use Rattle.laws.specs.Orders.{placed-not}
 use Rattle.laws.specs.Good.{Good}
@@ -39,6 +39,11 @@ count-clear n z = inside 1 128 n (refuse-clear (outside 1 128 n) 1 0 (omega arit
 pub sizes-clear : (widths guards : List ℕ) → networkSizes widths guards .number ≡ 0 → (length widths ≡ 128) × (length guards ≡ 16384)
 unfolding networkSizes
 sizes-clear widths guards z = let h = or-clear _ _ z in (size-clear widths 128 (h .0), size-clear guards 16384 (h .1))
+
+-- a table of so many cells
+pub size-is : (table : List ℕ) (cells size : ℕ) {f : Fault} → f ≡ refuseIf (not (eqb cells size)) 2 0 → length table ≡ cells → f ≡ sizeFault table size
+unfolding sizeFault
+size-is table cells size e q = rw q e
 
 -- 4 and 5, of one cell
 guard-near : (guards : List ℕ) (i j : ℕ) → badGuard guards i j ≡ false → at guards (cell i j) < 255 → at guards (cell i j) ≤ 32

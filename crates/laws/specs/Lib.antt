@@ -17,6 +17,7 @@ pub mod TwoSided
 pub mod Finding
 pub mod Limits
 pub mod Answers
+pub mod Outcomes
 pub mod OnJudging
 pub mod OnPacking
 pub mod OnGreedy
@@ -31,3 +32,6 @@ pub mod Unfit
 pub mod Updates
 pub mod Marks
 pub mod Accepted
+pub mod Engine
+pub mod Arranging
+pub mod Clash
