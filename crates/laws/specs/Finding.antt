@@ -38,7 +38,7 @@ module _ (net : Net) where
           go (yes l) = absurd (h l)
           go (no l) = omega arith
 
-  touches-local : (o r : ℕ → ℕ) (m k : ℕ) → ((i : ℕ) → i < m → o i ≡ r i) → touches net o m k ≡ touches net r m k
+  pub touches-local : (o r : ℕ → ℕ) (m k : ℕ) → ((i : ℕ) → i < m → o i ≡ r i) → touches net o m k ≡ touches net r m k
   unfolding touches
   touches-local o r m k h = found-same (λ i. inConflict net (o i) k) (λ i. inConflict net (r i) k) m (λ i l. ap (λ x. inConflict net x k) (h i l))
 

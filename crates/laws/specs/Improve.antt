@@ -8,6 +8,7 @@ use native.Mathlib.Omega.{arith}
 use native.Mathlib.Decide.{ℕ-discrete, decLt}
 use native.Mathlib.Nat.{mul-le-mul-right}
 use lib.ListN.{length, set, length-set}
+use lib.Seq.{ext-getD}
 use lib.Dec.{ltb}
 use borrow.Author.Tests.{lt-ltb, le-ltb}
 use Rattle.rules.specs.Tables.{at}
@@ -166,3 +167,27 @@ module _ (highestOf : List ℕ → ℕ) (n : ℕ) (pos : 0 < n) where
       go (no l) ih =
           let x = round-left q (omega arith) in
           rw (le-ltb (round highestOf n q .highest) (q .highest) (omega (arith, x .1))) (omega (arith, x .2))
+
+-- two places changed about twice
+pub swapped-back : (o : List ℕ) (a b : ℕ) → a < length o → b < length o → swapped (swapped o a b) a b ≡ o
+swapped-back o a b la lb = ext-getD 0 (swapped (swapped o a b) a b) o (swapped-length (swapped o a b) a b ∙ swapped-length o a b) (λ i l. same i (twice i))
+  where
+    once : (i : ℕ) → (p : ℕ) × (at (swapped o a b) i ≡ at o p) × How a b i p
+    once i = from o a b i la lb
+
+    twice : (i : ℕ) → (p : ℕ) × (at (swapped (swapped o a b) a b) i ≡ at (swapped o a b) p) × How a b i p
+    twice i = from (swapped o a b) a b i (omega (arith, swapped-length o a b)) (omega (arith, swapped-length o a b))
+
+    back : {i p q : ℕ} → How a b i p → How a b p q → q ≡ i
+    back (onto e f) (onto e′ f′) = omega arith
+    back (onto e f) (off x e′ f′) = omega arith
+    back (onto e f) (stay x y f′) = absurd (y f)
+    back (off x e f) (onto e′ f′) = omega arith
+    back (off x e f) (off x′ e′ f′) = absurd (x′ f)
+    back (off x e f) (stay x′ y f′) = absurd (x′ f)
+    back (stay x y f) (onto e′ f′) = absurd (x (sym f ∙ e′))
+    back (stay x y f) (off x′ e′ f′) = absurd (y (sym f ∙ e′))
+    back (stay x y f) (stay x′ y′ f′) = f′ ∙ f
+
+    same : (i : ℕ) → (p : ℕ) × (at (swapped (swapped o a b) a b) i ≡ at (swapped o a b) p) × How a b i p → at (swapped (swapped o a b) a b) i ≡ at o i
+    same i (p, e, h) = let r = once p in e ∙ r .1 ∙ ap (at o) (back h (r .2))

@@ -35,3 +35,5 @@ pub mod Accepted
 pub mod Engine
 pub mod Arranging
 pub mod Clash
+pub mod Growing
+pub mod Spreading

@@ -31,7 +31,7 @@ module _ (n : ℕ) (widths guards order starts : List ℕ) (w : Network n widths
   greedy-order = order-once (at greedyOrder) n (arranged-order (startNext (lowest (netOf widths guards)) starts) n order greedy-room n (omega arith))
 
   -- the order so far is the order's beginning, so it gives the same starts
-  same-start : (i k : ℕ) → i ≤ n → startNext (lowest (netOf widths guards)) starts (greedy (lowest (netOf widths guards)) n starts order i) i k ≡ greedyStart i k
+  pub same-start : (i k : ℕ) → i ≤ n → startNext (lowest (netOf widths guards)) starts (greedy (lowest (netOf widths guards)) n starts order i) i k ≡ greedyStart i k
   same-start i k l =
       let rule = lowest (netOf widths guards) in
       let loc = lowest-local (netOf widths guards) in
