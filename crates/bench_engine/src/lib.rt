@@ -7,7 +7,13 @@ ghost use Rattle.rules.specs.Packing.{lowest, packed};
 ghost use Rattle.laws.specs.Engine.{Ready};
 
 #[no_mangle]
-pub extern "C" fn bench_pack_into(n: usize, widths: &[u16], guards: &[u8], order: &[u8], starts: &mut [u16]) -> usize
+pub extern "C" fn bench_pack_into(
+    n: usize,
+    widths: &[u16],
+    guards: &[u8],
+    order: &[u8],
+    starts: &mut [u16],
+) -> usize
     requires { ⌜ Ready n (now widths) (now guards) (now order) (length (now starts)) ⌝ }
     ensures { λ r. ⌜ r ≡ highest (netOf (now (widths .entry)) (now (guards .entry))) (at (now (starts .exit))) n ⌝ }
     ensures { λ _. ⌜ now (starts .exit) ≡ packed (lowest (netOf (now (widths .entry)) (now (guards .entry)))) (at (now (order .entry))) (now (starts .entry)) n ⌝ }
