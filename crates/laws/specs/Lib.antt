@@ -17,5 +17,4 @@ pub mod Marks
 pub mod Accepted
 pub mod Engine
 pub mod Arranging
-pub mod Answers
 pub mod Clash
