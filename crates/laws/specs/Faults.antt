@@ -2,7 +2,7 @@
 -- function that tests has to show. Assumes nothing.
 use Prim.Native.Nat.{ℕ, _+_, _*_, _≤_, _<_}
 use mathlib.Core.Path.{_≡_, refl, sym, ap, _∙_}
-use mathlib.Core.Logic.{_≢_}
+use mathlib.Core.Logic.{_≢_, _⊎_, inl, inr}
 use mathlib.Core.Bool.{Bool, true, false, cond, not}
 use mathlib.Core.List.{List}
 use native.Mathlib.Omega.{arith}
@@ -12,7 +12,7 @@ use borrow.Author.Tests.{eq-eqb, ne-eqb, eqb-true, eqb-false, lt-ltb, le-ltb}
 use Rattle.rules.specs.declared.Fault.{Fault}
 use Rattle.rules.specs.Tables.{cell}
 use Rattle.rules.specs.Scan.{first, found, firstRow, foundPair}
-use Rattle.rules.specs.Numbers.{fault, noFault, refuseIf, _orElse_, scan, square, sizeFault}
+use Rattle.rules.specs.Numbers.{fault, noFault, refuseIf, _orElse_, scan, square, countFault, sizeFault, networkFault, networkSizes}
 use Rattle.laws.specs.Scans.{first-at, found-at, found-none, found-first, found-not, pair-none, pair-not}
 
 -- one test
@@ -113,3 +113,35 @@ size-clear table size z = go (eqb (length table) size) refl z
     go : (b : Bool) → eqb (length table) size ≡ b → refuseIf (not b) 2 0 .number ≡ 0 → length table ≡ size
     go true e z = eqb-true (length table) size e
     go false e z = absurd (omega (arith, ap (λ (x : Fault). x .number) (refuse-bad true 2 0 refl)))
+
+-- which numbers a test answers: a chain past tests that never answer x
+pub never-refuse : (bad : Bool) (m k x : ℕ) → (x ≢ m) → refuseIf bad m k .number ≡ x → x ≡ 0
+unfolding refuseIf
+never-refuse true m k x h e = absurd (h (sym e))
+never-refuse false m k x h e = sym e
+
+pub or-past : (a b : Fault) (x : ℕ) → (a .number ≡ x → x ≡ 0) → (a orElse b) .number ≡ x → (a .number ≡ 0) × (b .number ≡ x)
+unfolding _orElse_
+or-past a b x h = go (eqb (a .number) 0) refl
+  where
+    go : (t : Bool) → eqb (a .number) 0 ≡ t → cond t b a .number ≡ x → (a .number ≡ 0) × (b .number ≡ x)
+    go true e z = (eqb-true (a .number) 0 e, z)
+    go false e z = absurd (eqb-false (a .number) 0 e (z ∙ h z))
+
+pub never-or : (a b : Fault) (x : ℕ) → (a .number ≡ x → x ≡ 0) → (b .number ≡ x → x ≡ 0) → (a orElse b) .number ≡ x → x ≡ 0
+never-or a b x f g z = g (or-past a b x f z .1)
+
+pub never-size : (table : List ℕ) (size x : ℕ) → (x ≢ 2) → sizeFault table size .number ≡ x → x ≡ 0
+unfolding sizeFault
+never-size table size x h = never-refuse _ 2 0 x h
+
+pub never-sizes : (widths guards : List ℕ) (x : ℕ) → (x ≢ 2) → networkSizes widths guards .number ≡ x → x ≡ 0
+unfolding networkSizes
+never-sizes widths guards x h = never-or _ _ x (never-size widths 128 x h) (never-size guards 16384 x h)
+
+pub never-network : (n : ℕ) (widths guards : List ℕ) (x : ℕ) → (x ≡ 0) ⊎ (6 ≤ x) → networkFault n widths guards .number ≡ x → x ≡ 0
+unfolding networkFault countFault scan square
+never-network n widths guards x (inl e) = λ z. e
+never-network n widths guards x (inr l) =
+    never-or _ _ x (never-refuse _ 1 0 x (λ e. omega arith)) (never-or _ _ x (never-refuse _ 3 _ x (λ e. omega arith))
+    (never-or _ _ x (never-refuse _ 4 _ x (λ e. omega arith)) (never-refuse _ 5 _ x (λ e. omega arith))))

@@ -134,12 +134,24 @@ module _ (highestOf : List ℕ → ℕ) (n : ℕ) (pos : 0 < n) where
       let y = round-sound (rounds highestOf n k r) (x .0) in
       (y .0, omega (arith, x .1, y .1))
 
+  pub rounds-length : (k : ℕ) (r : Run) → length (rounds highestOf n k r .order) ≡ length (r .order)
+  unfolding rounds
+  rounds-length zero r = refl
+  rounds-length (suc k) r = go (decLt (highestOf (tried n q)) (q .highest)) ∙ rounds-length k r
+    where
+      q : Run
+      q = rounds highestOf n k r
+
+      go : Dec (highestOf (tried n q) < q .highest) → length (round highestOf n q .order) ≡ length (q .order)
+      go (yes l) = rw (round-kept q l .0) (tried-length q)
+      go (no l) = rw (round-left q (omega arith) .0)
+
   -- the number kept is the number of the rounds below k that strictly lower the highest slot
-  unfoldable pub lowers : Run → ℕ → Bool
+  abbrev pub lowers : Run → ℕ → Bool
   lowers r i = ltb (rounds highestOf n (suc i) r .highest) (rounds highestOf n i r .highest)
 
   pub kept-counts : (k : ℕ) (r : Run) → rounds highestOf n k r .kept ≡ r .kept + sum (λ i. cond (lowers r i) 1 0) k
-  unfolding rounds sum lowers
+  unfolding rounds sum
   kept-counts zero r = omega arith
   kept-counts (suc k) r = go (decLt (highestOf (tried n q)) (q .highest)) (kept-counts k r)
     where

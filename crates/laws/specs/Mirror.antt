@@ -20,6 +20,14 @@ module _ (net : Net) (p : ℕ → ℕ) where
   unfolding highest
   highest-le n x h = largest-le (λ k. end net k (p k)) n x h
 
+pub highest-same : (net : Net) (p q : ℕ → ℕ) (n : ℕ) → ((k : ℕ) → k < n → p k ≡ q k) → highest net p n ≡ highest net q n
+highest-same net p q n h =
+    omega (
+      arith,
+      highest-le net p n (highest net q n) (λ k l. omega (arith, h k l, highest-ge net q n k l)),
+      highest-le net q n (highest net p n) (λ k l. omega (arith, h k l, highest-ge net p n k l)),
+    )
+
 -- r is o backwards
 abbrev pub Reversed : (ℕ → ℕ) → (ℕ → ℕ) → ℕ → Type 0
 Reversed o r n = (i : ℕ) → i < n → r i ≡ o (n - 1 - i)

@@ -4,6 +4,7 @@ use mathlib.Core.Path.{_≡_, refl, sym, ap, subst, _∙_}
 use mathlib.Core.Logic.{_≢_, _⊎_, inl, inr}
 use mathlib.Core.Bool.{Bool, true, false, cond, not, _||_, _&&_, true≢false, false≢true}
 use native.Mathlib.Omega.{arith}
+use native.Mathlib.Decide.{decLt}
 use native.Mathlib.Nat.{le-of-suc-le-suc, zero-lt-suc}
 use lib.Dec.{ltb, leb, eqb}
 use borrow.Author.Tests.{lt-ltb, le-ltb, ltb-true, ltb-false}
@@ -148,3 +149,40 @@ pub sum-ge : (f : ℕ → ℕ) (a k : ℕ) → ((i : ℕ) → i < k → a ≤ f 
 unfolding sum
 sum-ge f a zero h = omega arith
 sum-ge f a (suc k) h = omega (arith, sum-ge f a k (λ i l. h i (omega arith)), h k (omega arith))
+
+pub sum-same : (f g : ℕ → ℕ) (n : ℕ) → ((k : ℕ) → k < n → f k ≡ g k) → sum f n ≡ sum g n
+unfolding sum
+sum-same f g zero h = refl
+sum-same f g (suc n) h = omega (arith, sum-same f g n (λ k l. h k (omega arith)), h n (omega arith))
+
+-- ones among the first i alone add up to at most i; ones at each of the first i, to i at least
+sum-all : (f : ℕ → ℕ) (m : ℕ) → ((j : ℕ) → f j ≤ 1) → sum f m ≤ m
+unfolding sum
+sum-all f zero one = omega arith
+sum-all f (suc m) one = omega (arith, sum-all f m one, one m)
+
+pub sum-few : (f : ℕ → ℕ) (i m : ℕ) → ((j : ℕ) → f j ≤ 1) → ((j : ℕ) → i ≤ j → j < m → f j ≡ 0) → sum f m ≤ i
+unfolding sum
+sum-few f i zero one rest = omega arith
+sum-few f i (suc m) one rest = go (decLt m i) (sum-few f i m one (λ j h l. rest j h (omega arith)))
+  where
+    go : Dec (m < i) → sum f m ≤ i → sum f m + f m ≤ i
+    go (yes l) ih = omega (arith, sum-all f m one, one m)
+    go (no l) ih = omega (arith, rest m (omega arith) (omega arith))
+
+sum-rises : (f : ℕ → ℕ) (i m : ℕ) → i ≤ m → sum f i ≤ sum f m
+unfolding sum
+sum-rises f i zero l = let e : i ≡ 0 = omega arith in rw e (omega arith)
+sum-rises f i (suc m) l = go (decLt m i) (λ h. sum-rises f i m h)
+  where
+    go : Dec (m < i) → (i ≤ m → sum f i ≤ sum f m) → sum f i ≤ sum f m + f m
+    go (yes h) ih = let e : i ≡ suc m = omega arith in rw e (omega arith)
+    go (no h) ih = omega (arith, ih (omega arith))
+
+pub sum-ones : (f : ℕ → ℕ) (i : ℕ) → ((j : ℕ) → j < i → f j ≡ 1) → sum f i ≡ i
+unfolding sum
+sum-ones f zero h = refl
+sum-ones f (suc i) h = omega (arith, sum-ones f i (λ j l. h j (omega arith)), h i (omega arith))
+
+pub sum-many : (f : ℕ → ℕ) (i m : ℕ) → i ≤ m → ((j : ℕ) → j < i → f j ≡ 1) → i ≤ sum f m
+sum-many f i m l h = omega (arith, sum-rises f i m l, sum-ones f i h)

@@ -1,6 +1,7 @@
 -- Document 01 as definitions, in its order.
 -- The tables and their sizes
 pub mod Tables
+pub mod Limits
 pub mod Scan
 -- Rules of a plan
 pub mod Plan

@@ -1,0 +1,127 @@
+-- Demand 3, over demand 2's valid plans and packing, as the calls answer. Assumes nothing.
+use Prim.Native.Nat.{ℕ, _+_, _-_, _≤_, _<_}
+use mathlib.Core.Path.{_≡_, refl, sym, ap, _∙_}
+use mathlib.Core.List.{List}
+use native.Mathlib.Omega.{arith}
+use lib.ListN.{length}
+use Rattle.rules.specs.declared.Packed.{Packed}
+use Rattle.rules.specs.Tables.{at}
+use Rattle.rules.specs.Limits.{Network, Starts}
+use Rattle.rules.specs.Plan.{Net, netOf, end, highest, Valid}
+use Rattle.rules.specs.Packing.{Order, lowest, packed}
+use Rattle.rules.specs.Pressing.{pressed, SameSides}
+use Rattle.rules.specs.Calls.{Left, left, donePacked, packing, pressing}
+use Rattle.laws.specs.Good.{Good}
+use Rattle.laws.specs.Press.{press-valid, press-sides, press-least, press-length, press-agree, press-again}
+use Rattle.laws.specs.Mirror.{Reversed, reverse-law, highest-ge, highest-le, highest-same}
+use Rattle.laws.specs.Limits.{network-good}
+use Rattle.laws.specs.Answers.{Judgeable, pressing-judgeable, judgeable-pressing, Packable, packing-packable, packable-packing}
+
+-- Pressing gives the least plan of the same sides, once and for all
+module _ (n : ℕ) (widths guards starts : List ℕ) (zero-answer : pressing n widths guards starts .answer .number ≡ 0) where
+  abbrev net : Net
+  net = netOf widths guards
+
+  abbrev press : Left Packed (List ℕ)
+  press = pressing n widths guards starts
+
+  judgeable : Judgeable n widths guards starts
+  judgeable = pressing-judgeable n widths guards starts zero-answer
+
+  good : Good net n
+  good = network-good n widths guards (judgeable .network)
+
+  few : n ≤ 128
+  few = judgeable .network .few
+
+  room : n ≤ length starts
+  room = omega (arith, judgeable .legal .size, judgeable .network .few)
+
+  press-is : press ≡ donePacked net n (pressed net n starts)
+  press-is = judgeable-pressing n widths guards starts judgeable
+
+  pub pressing-from-valid : Valid net n (at starts)
+  pressing-from-valid = judgeable .valid
+
+  -- a valid plan that keeps for each conflicting pair which is lower
+  pub pressing-valid : Valid net n (at (press .tables))
+  unfolding donePacked
+  pressing-valid = rw press-is (press-valid net n good few starts room (judgeable .valid))
+
+  pub pressing-sides : SameSides net n (at starts) (at (press .tables))
+  unfolding donePacked
+  pressing-sides = rw press-is (press-sides net n good few starts room (judgeable .valid))
+
+  -- no valid plan of those sides puts any path lower
+  pub pressing-least : (plan : ℕ → ℕ) → Valid net n plan → SameSides net n (at starts) plan → (k : ℕ) → k < n → at (press .tables) k ≤ plan k
+  unfolding donePacked
+  pressing-least plan v s = rw press-is (press-least net n good few starts room (judgeable .valid) plan v s)
+
+  pub pressing-highest : press .answer .highest ≡ highest net (at (press .tables)) n
+  unfolding donePacked
+  pressing-highest = rw press-is
+
+  -- so its highest slot is the least too
+  pub pressing-lowest : (plan : ℕ → ℕ) → Valid net n plan → SameSides net n (at starts) plan → press .answer .highest ≤ highest net plan n
+  pressing-lowest plan v s =
+      rw pressing-highest
+      (highest-le net (at (press .tables)) n (highest net plan n) (λ k l. omega (arith, pressing-least plan v s k l, highest-ge net plan n k l)))
+
+  -- what is pressed can be pressed: it answers 0 again, and changes nothing
+  pub pressed-judgeable : Judgeable n widths guards (press .tables)
+  pressed-judgeable = record {
+    network = judgeable .network;
+    legal = record {
+      size = size;
+      start = λ k l. (
+        pressing-valid .lows k l,
+        omega (arith, pressing-least (at starts) (judgeable .valid) (λ i j a b c lt. lt) k l, judgeable .legal .start k l .1),
+      );
+    };
+    valid = pressing-valid;
+  }
+    where
+      size : length (press .tables) ≡ 128
+      size = unfold donePacked in (rw press-is (press-length net n good few starts room (judgeable .valid) ∙ judgeable .legal .size))
+
+  pub pressing-again : pressing n widths guards (press .tables) ≡ press
+  pressing-again = judgeable-pressing n widths guards (press .tables) pressed-judgeable ∙ same
+    where
+      same : donePacked net n (pressed net n (press .tables)) ≡ press
+      same = unfold donePacked in (rw (press-is, press-again net n good few starts room (judgeable .valid)))
+
+-- two valid plans with the same sides press to the same plan, of the same highest slot
+pub pressing-same : (n : ℕ) (widths guards starts others : List ℕ) → pressing n widths guards starts .answer .number ≡ 0 → pressing n widths guards others .answer .number ≡ 0
+    → SameSides (netOf widths guards) n (at starts) (at others)
+    → ((k : ℕ) → k < n → at (pressing n widths guards starts .tables) k ≡ at (pressing n widths guards others .tables) k)
+    × (pressing n widths guards starts .answer .highest ≡ pressing n widths guards others .answer .highest)
+pressing-same n widths guards starts others y z s = (agree, tops)
+  where
+    a : Judgeable n widths guards starts
+    a = pressing-judgeable n widths guards starts y
+
+    b : Judgeable n widths guards others
+    b = pressing-judgeable n widths guards others z
+
+    agree : (k : ℕ) → k < n → at (pressing n widths guards starts .tables) k ≡ at (pressing n widths guards others .tables) k
+    agree k l = unfold donePacked in
+        (rw (judgeable-pressing n widths guards starts a, judgeable-pressing n widths guards others b)
+        (press-agree (netOf widths guards) n (network-good n widths guards (a .network)) (a .network .few) starts others
+        (omega (arith, a .legal .size, a .network .few)) (omega (arith, b .legal .size, b .network .few)) (a .valid) (b .valid) s k l))
+
+    tops : pressing n widths guards starts .answer .highest ≡ pressing n widths guards others .answer .highest
+    tops =
+        rw (pressing-highest n widths guards starts y, pressing-highest n widths guards others z)
+        (highest-same (netOf widths guards) (at (pressing n widths guards starts .tables)) (at (pressing n widths guards others .tables)) n agree)
+
+-- For every order, packing it and packing its reverse reach the same highest slot
+pub packing-reverse : (n : ℕ) (widths guards order reverse starts others : List ℕ)
+    → packing n widths guards order starts .answer .number ≡ 0 → packing n widths guards reverse others .answer .number ≡ 0 → Reversed (at order) (at reverse) n
+    → packing n widths guards order starts .answer .highest ≡ packing n widths guards reverse others .answer .highest
+unfolding donePacked
+packing-reverse n widths guards order reverse starts others y z rev =
+    let p = packing-packable n widths guards order starts y in
+    let q = packing-packable n widths guards reverse others z in
+    rw (packable-packing n widths guards order starts p, packable-packing n widths guards reverse others q)
+    (reverse-law (netOf widths guards) n (network-good n widths guards (p .network)) (λ k l. refl) (at order) (at reverse) (p .whole) (q .whole) rev starts others
+    (omega (arith, p .startsSize, p .network .few)) (omega (arith, q .startsSize, q .network .few)))
