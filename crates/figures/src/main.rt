@@ -147,18 +147,23 @@ fn judge_two(name: &[u8], a: u16, b: u16) {
     print_judged(name, r);
 }
 
+// The diagonal, and all paths by number.
+fn put_all(guards: &mut [u8], order: &mut [u8]) {
+    let mut k: usize = 0;
+    while k < 128 {
+        put_guard(guards, k, k, 255);
+        put_byte(order, k, k as u8);
+        k += 1;
+    }
+}
+
 // n paths of 64 slots, by number, each two in conflict with guard 32.
 fn pack_wide(name: &[u8], n: usize) {
     let widths = [64u16; 128];
     let mut guards = [32u8; 16384];
     let mut order = [0u8; 128];
     let mut starts = [7u16; 128];
-    let mut k: usize = 0;
-    while k < 128 {
-        put_guard(&mut guards, k, k, 255);
-        put_byte(&mut order, k, k as u8);
-        k += 1;
-    }
+    put_all(&mut guards, &mut order);
     let r = packing::pack(n, &widths, &guards, &order, &mut starts);
     print_packed(name, r, &starts, n);
 }
@@ -177,55 +182,127 @@ fn refuse_t(name: &[u8], n: usize, path: usize, width: u16, cell: usize, guard: 
     print_packed(name, r, &starts, 4);
 }
 
-fn sizes() {
-    let mut widths = [0u16; 128];
-    let mut guards = [255u8; 16384];
-    let mut order = [0u8; 128];
+fn pack_lent(
+    name: &[u8],
+    n: usize,
+    widths: &[u16],
+    guards: &[u8],
+    order: &[u8],
+    starts: &mut [u16],
+) {
+    let r = packing::pack(n, widths, guards, order, starts);
+    print_packed(name, r, starts, 3);
+}
+
+// Each table in turn one cell short, or one too long. 2 stands before 1: these calls have no paths, or 129.
+fn size_widths() {
+    let widths = [2u16; 127];
+    let guards = [255u8; 16384];
+    let order = [0u8; 128];
     let mut starts = [7u16; 128];
-    put_t(&mut widths, &mut guards);
-    put_order(&mut order, 0, 1, 2);
-    let short = [2u16; 127];
-    let long_guards = [255u8; 16385];
-    let short_order = [0u8; 127];
-    let mut long_starts = [7u16; 129];
-    let a = packing::pack(0, &short, &guards, &order, &mut starts);
-    print_packed(b"size-widths", a, &starts, 3);
-    let b = packing::pack(3, &widths, &long_guards, &order, &mut starts);
-    print_packed(b"size-guards", b, &starts, 3);
-    let c = packing::pack(3, &widths, &guards, &short_order, &mut starts);
-    print_packed(b"size-order", c, &starts, 3);
-    let d = packing::pack(3, &widths, &guards, &order, &mut long_starts);
-    print_packed(b"size-starts", d, &long_starts, 3);
-    let e = packing::press(3, &widths, &guards, &mut long_starts);
-    print_packed(b"size-press", e, &long_starts, 3);
-    let f = packing::judge(129, &widths, &guards, &long_starts);
-    print_judged(b"size-judge", f);
-    let g = packing::better(3, &widths, &guards, &order, &short_order);
-    print_part(b"size-better", g);
+    pack_lent(b"size-widths", 0, &widths, &guards, &order, &mut starts);
+}
+
+fn size_guards() {
+    let widths = [2u16; 128];
+    let guards = [255u8; 16385];
+    let order = [0u8; 128];
+    let mut starts = [7u16; 128];
+    pack_lent(b"size-guards", 129, &widths, &guards, &order, &mut starts);
+}
+
+fn size_order() {
+    let widths = [2u16; 128];
+    let guards = [255u8; 16384];
+    let order = [0u8; 127];
+    let mut starts = [7u16; 128];
+    pack_lent(b"size-order", 0, &widths, &guards, &order, &mut starts);
+}
+
+fn size_starts() {
+    let widths = [2u16; 128];
+    let guards = [255u8; 16384];
+    let order = [0u8; 128];
+    let mut starts = [7u16; 129];
+    pack_lent(b"size-starts", 129, &widths, &guards, &order, &mut starts);
+}
+
+fn size_press() {
+    let widths = [2u16; 128];
+    let guards = [255u8; 16384];
+    let mut starts = [7u16; 127];
+    let r = packing::press(0, &widths, &guards, &mut starts);
+    print_packed(b"size-press", r, &starts, 3);
+}
+
+fn size_judge() {
+    let widths = [2u16; 128];
+    let guards = [255u8; 16383];
+    let starts = [7u16; 128];
+    let r = packing::judge(129, &widths, &guards, &starts);
+    print_judged(b"size-judge", r);
+}
+
+fn size_better() {
+    let widths = [2u16; 128];
+    let guards = [255u8; 16384];
+    let first = [0u8; 128];
+    let second = [0u8; 129];
+    let part = packing::better(1, &widths, &guards, &first, &second);
+    print_part(b"size-better", part);
 }
 
 // Cells of index n or more are never tested, and stay as they are.
-fn junk() {
+fn put_junk(widths: &mut [u16], guards: &mut [u8]) {
+    put_t(widths, guards);
+    put_guard(guards, 0, 0, 255);
+    put_guard(guards, 1, 1, 255);
+    put_guard(guards, 2, 2, 255);
+    put_byte(guards, 3, 5);
+    put_byte(guards, 384, 6);
+}
+
+fn junk_pack() {
     let mut widths = [999u16; 128];
     let mut guards = [77u8; 16384];
     let mut order = [200u8; 128];
     let mut starts = [60000u16; 128];
-    put_t(&mut widths, &mut guards);
-    put_guard(&mut guards, 0, 0, 255);
-    put_guard(&mut guards, 1, 1, 255);
-    put_guard(&mut guards, 2, 2, 255);
+    put_junk(&mut widths, &mut guards);
     put_order(&mut order, 0, 1, 2);
-    put_byte(&mut guards, 3, 5);
-    put_byte(&mut guards, 384, 6);
-    let a = packing::pack(3, &widths, &guards, &order, &mut starts);
-    print_packed(b"junk-pack", a, &starts, 4);
-    let b = packing::judge(3, &widths, &guards, &starts);
-    print_judged(b"junk-judge", b);
+    let r = packing::pack(3, &widths, &guards, &order, &mut starts);
+    print_packed(b"junk-pack", r, &starts, 4);
+}
+
+fn junk_judge() {
+    let mut widths = [999u16; 128];
+    let mut guards = [77u8; 16384];
+    let mut starts = [60000u16; 128];
+    put_junk(&mut widths, &mut guards);
+    put_three(&mut starts, 1, 4, 10);
+    let r = packing::judge(3, &widths, &guards, &starts);
+    print_judged(b"junk-judge", r);
+}
+
+fn junk_press() {
+    let mut widths = [999u16; 128];
+    let mut guards = [77u8; 16384];
+    let mut starts = [60000u16; 128];
+    put_junk(&mut widths, &mut guards);
     put_three(&mut starts, 20, 10, 30);
-    let c = packing::press(3, &widths, &guards, &mut starts);
-    print_packed(b"junk-press", c, &starts, 4);
-    let d = packing::better(3, &widths, &guards, &order, &order);
-    print_part(b"junk-better", d);
+    let r = packing::press(3, &widths, &guards, &mut starts);
+    print_packed(b"junk-press", r, &starts, 4);
+}
+
+fn junk_better() {
+    let mut widths = [999u16; 128];
+    let mut guards = [77u8; 16384];
+    let mut first = [200u8; 128];
+    let mut second = [201u8; 128];
+    put_junk(&mut widths, &mut guards);
+    put_order(&mut first, 0, 1, 2);
+    put_order(&mut second, 1, 0, 2);
+    let part = packing::better(3, &widths, &guards, &first, &second);
+    print_part(b"junk-better", part);
 }
 
 // Two orders of T.
@@ -278,6 +355,15 @@ fn main() {
     better_t(b"better-first", 1, 0, 2, 0, 2, 1);
     better_t(b"better-equal", 2, 1, 0, 0, 1, 2);
     better_t(b"better-refused", 1, 0, 2, 0, 3, 1);
-    sizes();
-    junk();
+    size_widths();
+    size_guards();
+    size_order();
+    size_starts();
+    size_press();
+    size_judge();
+    size_better();
+    junk_pack();
+    junk_judge();
+    junk_press();
+    junk_better();
 }
