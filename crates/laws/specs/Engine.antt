@@ -14,64 +14,31 @@ use Rattle.rules.specs.Tables.{at, cell}
 use Rattle.rules.specs.Scan.{largest}
 use Rattle.rules.specs.Plan.{Net, netOf, end, highest}
 use Rattle.rules.specs.Packing.{Order, reach, lowest, packed, height}
-use Rattle.rules.specs.Numbers.{packFault}
+use Rattle.rules.specs.Limits.{Network}
 use Rattle.laws.specs.Tables.{at-same, at-other}
 use Rattle.laws.specs.Scans.{largest-ge, largest-le}
 use Rattle.laws.specs.Orders.{place}
-use Rattle.laws.specs.Good.{Good}
 use Rattle.laws.specs.Pack.{least, packed-next}
 use Rattle.laws.specs.Lowest.{lowest-mono, lowest-local}
 use Rattle.laws.specs.Plans.{everywhere, packs}
-use Rattle.laws.specs.Bound.{Within, lowest-climbs, next-bound}
-use Rattle.laws.specs.Faults.{or-clear, size-clear}
-use Rattle.laws.specs.Accepted.{sizes-clear, network-clear, order-clear}
+use Rattle.laws.specs.Mirror.{highest-same}
+use Rattle.laws.specs.Bound.{lowest-climbs, next-bound}
+use Rattle.laws.specs.Limits.{network-bounds}
 use Rattle.laws.specs.Updates.{Updated}
 
 -- the largest of equal numbers, and along a whole order
-pub largest-same : (f g : ℕ → ℕ) (n : ℕ) → ((k : ℕ) → k < n → f k ≡ g k) → largest f n ≡ largest g n
+largest-same : (f g : ℕ → ℕ) (n : ℕ) → ((k : ℕ) → k < n → f k ≡ g k) → largest f n ≡ largest g n
 unfolding largest
 largest-same f g zero h = refl
 largest-same f g (suc n) h = rw (largest-same f g n (λ k l. h k (omega arith)), h n (omega arith))
 
-pub largest-order : (f o : ℕ → ℕ) (n : ℕ) → Order o n n → largest (λ i. f (o i)) n ≡ largest f n
+largest-order : (f o : ℕ → ℕ) (n : ℕ) → Order o n n → largest (λ i. f (o i)) n ≡ largest f n
 largest-order f o n ord =
     omega (
       arith,
       largest-le (λ i. f (o i)) n (largest f n) (λ i l. largest-ge f n (o i) (ord .inside i l)),
       largest-le f n (largest (λ i. f (o i)) n) (λ k l. let r = place o n ord k l in subst (λ x. f x ≤ largest (λ i. f (o i)) n) (r .2) (largest-ge (λ i. f (o i)) n (r .0) (r .1))),
     )
-
--- what the engine asks of its tables
-pub record Ready (n : ℕ) (widths guards order : List ℕ) (slots : ℕ) : Type 0 where
-  pub few : n ≤ 128
-  pub fullWidths : length widths ≡ 128
-  pub fullGuards : length guards ≡ 16384
-  pub fullOrder : length order ≡ 128
-  pub fullStarts : slots ≡ 128
-  pub good : Good (netOf widths guards) n
-  pub within : Within (netOf widths guards) n 1
-  pub whole : Order (at order) n n
-
--- the tests of packing give it
-pub ready : (n : ℕ) (widths guards order starts : List ℕ) → packFault n widths guards order starts .number ≡ 0 → Ready n widths guards order (length starts)
-unfolding packFault
-ready n widths guards order starts z =
-    let a = or-clear _ _ z in
-    let b = or-clear _ _ (a .1) in
-    let c = or-clear _ _ (b .1) in
-    let d = or-clear _ _ (c .1) in
-    let s = sizes-clear widths guards (a .0) in
-    let w = network-clear n widths guards (d .0) in
-    record {
-      few = w .few;
-      fullWidths = s .0;
-      fullGuards = s .1;
-      fullOrder = size-clear order 128 (b .0);
-      fullStarts = size-clear starts 128 (c .0);
-      good = w .good;
-      within = w .within;
-      whole = order-clear n order (d .1);
-    }
 
 -- what a placed path asks of another, base being the slot after its end and g their guard: end + guard + 1; 0 where there is no conflict
 unfoldable pub asks : ℕ → ℕ → ℕ
@@ -107,7 +74,7 @@ pub stands-first : (net : Net) (n : ℕ) (o : ℕ → ℕ) (table need : List �
 unfolding lowest packed largest
 stands-first net n o table need l m h = record { here = omega arith; long = l; wide = m; needs = h; tops = refl; written = refl }
 
-module _ (widths guards : List ℕ) (n : ℕ) (few : n ≤ 128) (good : Good (netOf widths guards) n) (o : ℕ → ℕ) (ord : Order o n n) (table starts need : List ℕ) (top p : ℕ) where
+module _ (n : ℕ) (widths guards : List ℕ) (limits : Network n widths guards) (o : ℕ → ℕ) (ord : Order o n n) (table starts need : List ℕ) (top p : ℕ) where
   abbrev net : Net
   net = netOf widths guards
 
@@ -129,13 +96,13 @@ module _ (widths guards : List ℕ) (n : ℕ) (few : n ≤ 128) (good : Good (ne
       inside = subst (λ x. x < n) (sym ei) (ord .inside p l)
 
       pos : 1 ≤ net .width i
-      pos = good .wide i inside
+      pos = limits .width i inside .0
 
       after : List ℕ
       after = set starts i s
 
       at-new : at after i ≡ s
-      at-new = at-same starts i s (omega (arith, t .long, inside))
+      at-new = at-same starts i s (omega (arith, t .long, inside, limits .few))
 
       at-old : (k : ℕ) → k < p → at after (o k) ≡ at starts (o k)
       at-old k g = at-other starts i s (o k) (λ e. ord .fresh k p g l (e ∙ ei))
@@ -150,13 +117,14 @@ module _ (widths guards : List ℕ) (n : ℕ) (few : n ≤ 128) (good : Good (ne
       tops-old = largest-same _ _ p (λ k g. ap (λ x. end net (o k) x) (sym (at-old k g)))
 
   -- the sums of a turn fit in 16 bits
-  pub need-bound : Within net n 1 → length table ≡ 128 → Stands net n o table starts need top p → p < n → at need (o p) ≤ 1 + 96 * p
-  need-bound w room t l =
+  pub need-bound : length table ≡ 128 → Stands net n o table starts need top p → p < n → at need (o p) ≤ 1 + 96 * p
+  need-bound room t l =
+      let w = network-bounds n widths guards limits in
       omega (
         arith,
         t .needs (o p) (ord .inside p l),
         ap (λ (x : List ℕ). lowest net (at x) o p (o p)) (t .written),
-        next-bound net n 1 w o ord (lowest net) (lowest-local net) (lowest-climbs net n 1 w o ord) table (omega arith) p l,
+        next-bound net n 1 w o ord (lowest net) (lowest-local net) (lowest-climbs net n 1 w o ord) table (omega (arith, limits .few)) p l,
       )
 
   pub stands-last : Stands net n o table starts need top p → n ≤ p → (top ≡ highest net (at starts) n) × (starts ≡ packed (lowest net) o table n)
@@ -167,10 +135,10 @@ module _ (widths guards : List ℕ) (n : ℕ) (few : n ≤ 128) (good : Good (ne
 
 -- the height of an order does not go by the table that it is packed into
 pub height-any : (w : Net) (n : ℕ) (order t u : List ℕ) → Order (at order) n n → n ≤ length t → n ≤ length u → height w n (lowest w) t order ≡ height w n (lowest w) u order
-unfolding height highest
+unfolding height
 height-any w n order t u ord a b =
-    largest-same _ _ n (everywhere w n o ord (λ k. end w k (at (packed (lowest w) o t n) k) ≡ end w k (at (packed (lowest w) o u n) k))
-    (λ i l. ap (λ x. end w (o i) x) (omega (arith, low t u a b i l, low u t b a i l))))
+    highest-same w (at (packed (lowest w) o t n)) (at (packed (lowest w) o u n)) n
+    (everywhere w n o ord (λ k. at (packed (lowest w) o t n) k ≡ at (packed (lowest w) o u n) k) (λ i l. omega (arith, low t u a b i l, low u t b a i l)))
   where
     o : ℕ → ℕ
     o = at order

@@ -15,7 +15,6 @@ use Rattle.rules.specs.Limits.{Network}
 use Rattle.laws.specs.Tables.{at-same}
 use Rattle.laws.specs.Orders.{arranged-order, arranged-begins, choose-keys}
 use Rattle.laws.specs.Marks.{isMarked}
-use Rattle.laws.specs.Limits.{network-good, network-bounds}
 use Rattle.laws.specs.Arranging.{Arranging, arranging-first, arranging-below, arranging-more, arranging-last}
 use Rattle.laws.specs.Engine.{Stands, Raised, stands-first, stands-more, need-bound}
 use Rattle.laws.specs.OnGreedy.{greedyStart, same-start}
@@ -97,11 +96,11 @@ module _ (n : ℕ) (widths guards before table : List ℕ) (w : Network n widths
     pub growing-bound : at need c ≤ 1 + 96 * m
     growing-bound =
         rw is-next
-        (need-bound widths guards n (w .few) (network-good n widths guards w) o ord table (starts m) need (top m) m (network-bounds n widths guards w) space (g .stands) l)
+        (need-bound n widths guards w o ord table (starts m) need (top m) m space (g .stands) l)
 
     pub growing-more : (more : List ℕ) (s v : ℕ) → s ≡ at need c → v ≡ at widths c → Raised n guards c (s + v) need more → Growing n widths guards before table (set order m c) (set marks c 1) more (m + 1)
     growing-more more s v es ev u =
-        let after = stands-more widths guards n (w .few) (network-good n widths guards w) o ord table (starts m) need (top m) m (g .stands) l more (max (top m) (s + v - 1)) c s v is-next es ev u refl in
+        let after = stands-more n widths guards w o ord table (starts m) need (top m) m (g .stands) l more (max (top m) (s + v - 1)) c s v is-next es ev u refl in
         record {
           arranging = arranging-more key n (w .few) before room order marks m (g .arranging) l c chosen;
           stands = settle (set (starts m) c s) (max (top m) (s + v - 1)) after;

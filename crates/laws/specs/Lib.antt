@@ -17,7 +17,6 @@ pub mod TwoSided
 pub mod Finding
 pub mod Limits
 pub mod Answers
-pub mod Outcomes
 pub mod OnJudging
 pub mod OnPacking
 pub mod OnGreedy
@@ -31,7 +30,7 @@ pub mod Witness
 pub mod Unfit
 pub mod Updates
 pub mod Marks
-pub mod Accepted
+pub mod Chains
 pub mod Engine
 pub mod Arranging
 pub mod Clash

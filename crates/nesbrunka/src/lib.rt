@@ -13,14 +13,25 @@ pub extern "C" fn nesbrunka_judge(n: usize, widths: &[u16], guards: &[u8], start
 }
 
 #[no_mangle]
-pub extern "C" fn nesbrunka_pack(n: usize, widths: &[u16], guards: &[u8], order: &[u8], starts: &mut [u16]) -> Packed
+pub extern "C" fn nesbrunka_pack(
+    n: usize,
+    widths: &[u16],
+    guards: &[u8],
+    order: &[u8],
+    starts: &mut [u16],
+) -> Packed
     ensures { λ r. ⌜ left r (now (starts .exit)) ≡ packing n (now (widths .entry)) (now (guards .entry)) (now (order .entry)) (now (starts .entry)) ⌝ }
 {
     packing::pack(n, widths, guards, order, starts)
 }
 
 #[no_mangle]
-pub extern "C" fn nesbrunka_press(n: usize, widths: &[u16], guards: &[u8], starts: &mut [u16]) -> Packed
+pub extern "C" fn nesbrunka_press(
+    n: usize,
+    widths: &[u16],
+    guards: &[u8],
+    starts: &mut [u16],
+) -> Packed
     ensures { λ r. ⌜ left r (now (starts .exit)) ≡ pressing n (now (widths .entry)) (now (guards .entry)) (now (starts .entry)) ⌝ }
 {
     packing::press(n, widths, guards, starts)
@@ -28,7 +39,13 @@ pub extern "C" fn nesbrunka_press(n: usize, widths: &[u16], guards: &[u8], start
 
 // An exported function cannot return a reference: 1 for the first order, 2 for the second, 0 for neither.
 #[no_mangle]
-pub extern "C" fn nesbrunka_better(n: usize, widths: &[u16], guards: &[u8], first: &[u8], second: &[u8]) -> usize
+pub extern "C" fn nesbrunka_better(
+    n: usize,
+    widths: &[u16],
+    guards: &[u8],
+    first: &[u8],
+    second: &[u8],
+) -> usize
     ensures { λ r. ⌜ r ≡ comparing n (now (widths .entry)) (now (guards .entry)) (now (first .entry)) (now (second .entry)) ⌝ }
 {
     packing::compare(n, widths, guards, first, second)

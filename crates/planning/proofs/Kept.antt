@@ -12,25 +12,11 @@ use Rattle.rules.specs.Plan.{netOf}
 use Rattle.rules.specs.Packing.{Order, lowest, height}
 use Rattle.rules.specs.Planning.{draw, drawnPlace, swapped, Run, stateAfter, tried, round, rounds, improved}
 use Rattle.laws.specs.Tables.{cleared-length}
-use Rattle.laws.specs.Limits.{network-good, network-bounds}
 use Rattle.laws.specs.Answers.{Packable}
 use Rattle.laws.specs.OnImproving.{run-packable}
 use Rattle.laws.specs.Improve.{swapped-order, swapped-length, swapped-back, place-below, draw-below}
-use Rattle.laws.specs.Engine.{Ready}
 use Rattle.planning.specs.declared.rounds.Standing.{Standing}
 use Rattle.planning.specs.Standing.{runOf, highestOf, Tried}
-
-pub tried-ready : (n : ℕ) (widths guards order : List ℕ) → Tried n widths guards order → Ready n widths guards order 128
-tried-ready n widths guards order t = record {
-  few = t .network .few;
-  fullWidths = t .network .widthsSize;
-  fullGuards = t .network .guardsSize;
-  fullOrder = t .fullOrder;
-  fullStarts = refl;
-  good = network-good n widths guards (t .network);
-  within = network-bounds n widths guards (t .network);
-  whole = t .whole;
-}
 
 -- a swap of two places below n leaves an order
 pub swap-tried : (n : ℕ) (widths guards order after : List ℕ) (a b : ℕ) → Tried n widths guards order → a < n → b < n → after ≡ swapped order a b → Tried n widths guards after

@@ -19,9 +19,6 @@ outside-low least most x h = rw (lt-ltb x least h)
 pub outside-high : (least most x : ℕ) → least ≤ x → most < x → outside least most x ≡ true
 outside-high least most x h g = rw (le-ltb x least h, lt-ltb most x g)
 
-pub outside-not : (least most x : ℕ) → least ≤ x → x ≤ most → outside least most x ≡ false
-outside-not least most x h g = rw (le-ltb x least h, le-ltb most x g)
-
 -- 4: a guard within its range, and 255 on the diagonal
 pub guard-right : (guards : List ℕ) (i j : ℕ) → (i ≡ j → at guards (cell i j) ≡ 255) → (at guards (cell i j) ≢ 255 → at guards (cell i j) ≤ 32) → badGuard guards i j ≡ false
 guard-right guards i j d h = go (eqb g 255) refl

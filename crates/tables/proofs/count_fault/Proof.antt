@@ -1,7 +1,8 @@
+use Rattle.laws.specs.Limits.{outside-none}
 use mathlib.Core.Path.{sym, _∙_}
 use Rattle.rules.specs.Numbers.{outside, countFault}
 use Rattle.laws.specs.Faults.{refuse-bad, refuse-not}
-use Rattle.tables.proofs.Tests.{outside-low, outside-high, outside-not}
+use Rattle.tables.proofs.Tests.{outside-low, outside-high}
 use borrow.Author.Needs.{needs}
 use Rattle.tables.proofs.count_fault.Statement.{statement}
 use Rattle.tables.proofs.count_fault.Tie as tie
@@ -29,7 +30,7 @@ accepted-requires c κs = search needs
 
 returns-3 : tie.Need-returns-3
 unfolding countFault
-returns-3 c = c .accepted .ensures ∙ sym (refuse-not (outside 1 128 (c .before .before .before .args .n)) 1 0 (outside-not 1 128 (c .before .before .before .args .n) (c .before .before .if1 .left) (c .before .if2 .left)))
+returns-3 c = c .accepted .ensures ∙ sym (refuse-not (outside 1 128 (c .before .before .before .args .n)) 1 0 (outside-none 1 128 (c .before .before .before .args .n) (c .before .before .if1 .left) (c .before .if2 .left)))
 
 pub count-fault-spec : {M : Type 1} → statement M
 count-fault-spec =

@@ -1,7 +1,7 @@
+use Rattle.planning.proofs.Kept.{Improving, improving-first, improving-more}
 use native.Mathlib.Omega.{arith}
 use Prim.Native.Nat.{_≤_, _-_}
 use mathlib.Core.Path.{_≡_, refl, sym, _∙_}
-use Rattle.planning.proofs.Kept.{tried-ready, Improving, improving-first, improving-more}
 use Rattle.planning.proofs.rounds.improve_order.Statement.{statement}
 use Rattle.planning.proofs.rounds.improve_order.Tie as tie
 use Rattle.planning.proofs.rounds.improve_order.Reads as reads
@@ -17,7 +17,7 @@ abbrev μ-loop : tie.MeasureT-loop
 
 -- src/rounds.rt:49:9
 height-of-requires : tie.Need-height-of-requires Inv-loop μ-loop
-height-of-requires c κs = let s = c .before .before .before .before in tried-ready (s .args .n) (s .args .widths .now) (s .args .guards .now) (s .args .order .now) (s .pre .0)
+height-of-requires c κs = let t = c .before .before .before .before .pre .0 in (t .network, (t .fullOrder, t .whole))
 
 -- src/rounds.rt:56:5
 loop-holds : tie.Need-loop-holds Inv-loop μ-loop

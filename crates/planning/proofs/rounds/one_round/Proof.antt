@@ -1,6 +1,6 @@
+use Rattle.planning.proofs.Kept.{swap-tried, round-kept, round-undone}
 use native.Mathlib.Omega.{arith}
 use Rattle.planning.specs.Standing.{highestOf}
-use Rattle.planning.proofs.Kept.{tried-ready, swap-tried, round-kept, round-undone}
 use borrow.Author.Needs.{needs}
 use Rattle.planning.proofs.rounds.one_round.Statement.{statement}
 use Rattle.planning.proofs.rounds.one_round.Tie as tie
@@ -34,7 +34,8 @@ swap-requires c κs = search needs
 -- src/rounds.rt:28:9
 height-of-requires : tie.Need-height-of-requires
 height-of-requires c κs = let s = c .before .before .before .before .before .before .before .before .before .before .before .before in
-    tried-ready (s .args .n) (s .args .widths .now) (s .args .guards .now) _ (swap-tried (s .args .n) (s .args .widths .now) (s .args .guards .now) (s .args .order .now) _ (c .before .before .before .before .before .before .place-of .result) (c .before .before .before .before .before .place-of2 .result) (s .pre .0) (c .before .before .before .before .before .before .place-of .ensures .1) (c .before .before .before .before .before .place-of2 .ensures .1) (c .before .before .before .swap .ensures))
+    let t = (swap-tried (s .args .n) (s .args .widths .now) (s .args .guards .now) (s .args .order .now) _ (c .before .before .before .before .before .before .place-of .result) (c .before .before .before .before .before .place-of2 .result) (s .pre .0) (c .before .before .before .before .before .before .place-of .ensures .1) (c .before .before .before .before .before .place-of2 .ensures .1) (c .before .before .before .swap .ensures)) in
+    (t .network, (t .fullOrder, t .whole))
 
 -- src/rounds.rt:33:19
 add-t17 : tie.Need-add-t17
