@@ -231,10 +231,9 @@ module _ (n : ℕ) (widths guards order starts : List ℕ) (seed rounds : ℕ) w
     pub startsSize : length starts ≡ 128
     pub few : rounds ≤ 10000
 
-  pub planning-plannable : planning n widths guards order starts seed rounds .answer .number ≡ 0 → Plannable
-  unfolding planning planFault refusedPlanned roundsFault
-  planning-plannable z =
-      let y = unless-clear (λ (r : Left Planned (List ℕ × List ℕ)). r .answer .number) (planFault n widths guards order starts rounds) (refusedPlanned order starts) _ refl z in
+  pub plan-clear : planFault n widths guards order starts rounds .number ≡ 0 → Plannable
+  unfolding planFault roundsFault
+  plan-clear y =
       let a = or-clear _ _ y in
       let b = or-clear _ _ (a .1) in
       let c = or-clear _ _ (b .1) in
@@ -245,6 +244,10 @@ module _ (n : ℕ) (widths guards order starts : List ℕ) (seed rounds : ℕ) w
         startsSize = size-clear starts 128 (c .0);
         few = ltb-false 10000 rounds (refuse-clear (ltb 10000 rounds) 10 0 (omega arith) (d .1));
       }
+
+  pub planning-plannable : planning n widths guards order starts seed rounds .answer .number ≡ 0 → Plannable
+  unfolding planning refusedPlanned
+  planning-plannable z = plan-clear (unless-clear (λ (r : Left Planned (List ℕ × List ℕ)). r .answer .number) (planFault n widths guards order starts rounds) (refusedPlanned order starts) _ refl z)
 
   pub plannable-planning : Plannable → planning n widths guards order starts seed rounds ≡ donePlan (netOf widths guards) n order starts seed rounds
   unfolding planning planFault roundsFault
@@ -275,10 +278,9 @@ module _ (n : ℕ) (widths guards list : List ℕ) where
       go false e z =
           (leb-false n (at list k) e, λ i l. joined i (eqb (at list i) (at list k)) (found-not (λ i. eqb (at list i) (at list k) || not (inConflict net (at list i) (at list k))) k z i l))
 
-  pub flooring-floorable : flooring n widths guards list .number ≡ 0 → Floorable n widths guards list
-  unfolding flooring floorFault listFault
-  flooring-floorable z =
-      let y = unless-clear (λ (r : Floored). r .number) (floorFault n widths guards list) _ _ refl z in
+  pub floor-clear : floorFault n widths guards list .number ≡ 0 → Floorable n widths guards list
+  unfolding floorFault listFault
+  floor-clear y =
       let a = or-clear _ _ y in
       let b = or-clear _ _ (a .1) in
       let c = or-clear _ _ (b .1) in
@@ -290,6 +292,10 @@ module _ (n : ℕ) (widths guards list : List ℕ) where
         few = long .1;
         clique = record { inside = λ i l. member (netOf widths guards) i (bad i l) .0; all = λ i j h l. member (netOf widths guards) j (bad j l) .1 i h };
       }
+
+  pub flooring-floorable : flooring n widths guards list .number ≡ 0 → Floorable n widths guards list
+  unfolding flooring
+  flooring-floorable z = floor-clear (unless-clear (λ (r : Floored). r .number) (floorFault n widths guards list) _ _ refl z)
 
   pub flooring-floor : flooring n widths guards list .number ≡ 0 → flooring n widths guards list .floor ≡ floor (netOf widths guards) (at list) (length list)
   unfolding flooring

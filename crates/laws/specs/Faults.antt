@@ -49,6 +49,14 @@ or-clear a b = go (eqb (a .number) 0) refl
 pub or-none : (a b : Fault) → a .number ≡ 0 → b .number ≡ 0 → (a orElse b) .number ≡ 0
 or-none a b e f = rw (or-second a b e) f
 
+pub or-assoc : (a b c : Fault) → ((a orElse b) orElse c) ≡ (a orElse (b orElse c))
+unfolding _orElse_
+or-assoc a b c = go (eqb (a .number) 0) refl
+  where
+    go : (t : Bool) → eqb (a .number) 0 ≡ t → cond (eqb (cond t b a .number) 0) c (cond t b a) ≡ cond t (cond (eqb (b .number) 0) c b) a
+    go true e = refl
+    go false e = rw e
+
 -- a chain of tests: f is what the first test answered; it is the answer, or the chain goes on
 pub or-stop : (b : Fault) {a f : Fault} → f ≡ a → f .number ≢ 0 → f ≡ (a orElse b)
 or-stop b {a} {f} e h = e ∙ sym (or-first a b (λ z. h (ap (λ (x : Fault). x .number) e ∙ z)))

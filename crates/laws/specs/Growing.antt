@@ -38,7 +38,7 @@ greedyTop n widths guards before table m =
 pub record Growing (n : ℕ) (widths guards before table order marks need : List ℕ) (m : ℕ) : Type 0 where
   pub arranging : Arranging (greedyKey widths guards table) n before order marks m
   pub stands :
-    Stands (netOf widths guards) n (greedyPath n widths guards before table) table (greedyStarts n widths guards before table m) need (greedyTop n widths guards before table m) m
+      Stands (netOf widths guards) n (greedyPath n widths guards before table) table (greedyStarts n widths guards before table m) need (greedyTop n widths guards before table m) m
 
 module _ (n : ℕ) (widths guards before table : List ℕ) (w : Network n widths guards) (full : length before ≡ 128) (space : length table ≡ 128) where
   abbrev net : Net

@@ -1,2 +1,3 @@
 pub mod Listed
 pub mod Standing
+pub mod Marked

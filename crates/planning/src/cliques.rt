@@ -110,7 +110,7 @@ fn least_before(guards: &[u8], list: &[u8], j: usize) -> u8
 }
 
 // The least guard among the paths of the list; 255 where there are no two.
-fn least_guard(guards: &[u8], list: &[u8]) -> u8
+pub fn least_guard(guards: &[u8], list: &[u8]) -> u8
     requires { ⌜ Listed (now guards) (now list) (length (now list)) ⌝ }
     ensures { λ r. ⌜ ((widths : List ℕ) → r ≡ leastGuard (netOf widths (now (guards .entry))) (at (now (list .entry))) (length (now (list .entry)))) ⌝ }
 {
@@ -125,7 +125,7 @@ fn least_guard(guards: &[u8], list: &[u8]) -> u8
 }
 
 // The widths of the paths of the list, added.
-fn widths_added(widths: &[u16], list: &[u8]) -> usize
+pub fn widths_added(widths: &[u16], list: &[u8]) -> usize
     requires { ⌜ (length (now widths) ≡ 128) × ((length (now list) ≤ 8) × ((i : ℕ) → i < length (now list) → (at (now list) i < 128) × (at (now widths) (at (now list) i) ≤ 64))) ⌝ }
     ensures { λ r. ⌜ (r ≡ sum (λ i. at (now (widths .entry)) (at (now (list .entry)) i)) (length (now (list .entry)))) × (r ≤ 512) ⌝ }
 {

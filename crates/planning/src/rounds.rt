@@ -42,7 +42,14 @@ fn one_round(n: usize, widths: &[u16], guards: &[u8], order: &mut [u8], run: Sta
 }
 
 // So many rounds from a seed. The order is left as the last round leaves it.
-pub fn improve_order(n: usize, widths: &[u16], guards: &[u8], order: &mut [u8], seed: u32, count: usize) -> Standing
+pub fn improve_order(
+    n: usize,
+    widths: &[u16],
+    guards: &[u8],
+    order: &mut [u8],
+    seed: u32,
+    count: usize,
+) -> Standing
     requires { ⌜ Tried n (now widths) (now guards) (now order) × (count ≤ 10000) ⌝ }
     ensures { λ r. ⌜ ((table : List ℕ) → length table ≡ 128 → runOf r (now (order .exit)) ≡ improved (netOf (now (widths .entry)) (now (guards .entry))) n (lowest (netOf (now (widths .entry)) (now (guards .entry)))) table (now (order .entry)) seed count) ⌝ }
 {

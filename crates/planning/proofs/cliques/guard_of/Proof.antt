@@ -4,9 +4,6 @@ use mathlib.Core.Path.{refl}
 use borrow.Author.Needs.{needs}
 use Rattle.planning.proofs.cliques.guard_of.Statement.{statement}
 use Rattle.planning.proofs.cliques.guard_of.Tie as tie
-use Rattle.planning.proofs.cliques.guard_of.Reads as reads
-use Rattle.planning.proofs.cliques.guard_of.Lts as lts
-use Rattle.planning.proofs.cliques.path_at.Reads as path-at-reads
 
 -- both are paths
 paths : (c : tie.After-path-at2) → (c .before .path-at .result < 128) × (c .path-at2 .result < 128)
@@ -16,27 +13,21 @@ paths c =
       omega (arith, c .path-at2 .ensures, s .pre .1 .inside (s .args .j) (omega arith)),
     )
 
--- src/cliques.rt:27:9
 path-at-requires : tie.Need-path-at-requires
 path-at-requires c κs = search needs
 
--- src/cliques.rt:28:9
 path-at-requires-2 : tie.Need-path-at-requires-2
 path-at-requires-2 c κs = search needs
 
--- src/cliques.rt:29:12
 mul-result : tie.Need-mul-result
 mul-result c = omega (arith, paths c)
 
--- src/cliques.rt:29:12
 add-result : tie.Need-add-result
 add-result c = omega (arith, paths c)
 
--- src/cliques.rt:29:5
 shared-slice-read-result : tie.Need-shared-slice-read-result
 shared-slice-read-result c = omega (arith, paths (c .before))
 
--- src/cliques.rt:23:1
 returns : tie.Need-returns
 returns c = rw (c .before .before .path-at .ensures, c .before .path-at2 .ensures)
 

@@ -7,9 +7,6 @@ use Rattle.laws.specs.Scans.{found-at, found-none}
 use Rattle.planning.specs.Listed.{stranger}
 use Rattle.planning.proofs.cliques.has_stranger.Statement.{statement}
 use Rattle.planning.proofs.cliques.has_stranger.Tie as tie
-use Rattle.planning.proofs.cliques.has_stranger.Reads as reads
-use Rattle.planning.proofs.cliques.has_stranger.Lts as lts
-use Rattle.planning.proofs.cliques.is_stranger.Reads as is-stranger-reads
 
 abbrev Inv-loop : tie.InvT-loop
 Inv-loop guards list j i₀ i = (i ≤ j) × ((k : ℕ) → k < i → stranger guards list j k ≡ false)
@@ -17,31 +14,24 @@ Inv-loop guards list j i₀ i = (i ≤ j) × ((k : ℕ) → k < i → stranger g
 abbrev μ-loop : tie.MeasureT-loop
 μ-loop guards list j i₀ i = j - i
 
--- src/cliques.rt:50:5
 loop-holds : tie.Need-loop-holds Inv-loop μ-loop
 loop-holds c = (omega arith, below-none _)
 
--- src/cliques.rt:51:12
 is-stranger-requires : tie.Need-is-stranger-requires Inv-loop μ-loop
 is-stranger-requires c κs = (omega arith, c .before .before .before .before .pre)
 
--- src/cliques.rt:52:13
 returns : tie.Need-returns Inv-loop μ-loop
 returns c = sym (found-at _ _ (c .before .before .before .loop .i) (c .before .before .loop-test .taken) (sym (c .before .is-stranger .ensures) ∙ c .if1 .taken))
 
--- src/cliques.rt:54:9
 add-i : tie.Need-add-i Inv-loop μ-loop
 add-i c = omega arith
 
--- src/cliques.rt:50:5
 loop-less : tie.Need-loop-less Inv-loop μ-loop
 loop-less c = omega arith
 
--- src/cliques.rt:50:5
 loop-again : tie.Need-loop-again Inv-loop μ-loop
 loop-again c = (omega arith, below-more _ _ (c .before .before .before .loop .inv .1) (sym (c .before .is-stranger .ensures) ∙ c .if1 .left))
 
--- src/cliques.rt:45:1
 returns-2 : tie.Need-returns-2 Inv-loop μ-loop
 returns-2 c = let a = c .before .before .before .before .args in
     let e : c .before .loop .i ≡ a .j = omega arith in

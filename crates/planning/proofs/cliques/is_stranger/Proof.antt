@@ -7,10 +7,6 @@ use borrow.Author.Tests.{eq-eqb, ne-eqb, ltb-true, ltb-false, le-leb, lt-leb}
 use borrow.Author.Needs.{needs}
 use Rattle.planning.proofs.cliques.is_stranger.Statement.{statement}
 use Rattle.planning.proofs.cliques.is_stranger.Tie as tie
-use Rattle.planning.proofs.cliques.is_stranger.Reads as reads
-use Rattle.planning.proofs.cliques.is_stranger.Lts as lts
-use Rattle.planning.proofs.cliques.guard_of.Reads as guard-of-reads
-use Rattle.planning.proofs.cliques.path_at.Reads as path-at-reads
 
 no-conflict : (g : ℕ) → leb 255 g ≡ not (ltb g 255)
 no-conflict g = go (ltb g 255) refl
@@ -19,23 +15,18 @@ no-conflict g = go (ltb g 255) refl
     go true e = lt-leb 255 g (ltb-true g 255 e)
     go false e = le-leb 255 g (ltb-false g 255 e)
 
--- src/cliques.rt:39:8
 path-at-requires : tie.Need-path-at-requires
 path-at-requires c κs = search needs
 
--- src/cliques.rt:39:28
 path-at-requires-2 : tie.Need-path-at-requires-2
 path-at-requires-2 c κs = search needs
 
--- src/cliques.rt:40:9
 returns : tie.Need-returns
 returns c = rw (eq-eqb _ _ (sym (c .before .before .path-at .ensures) ∙ c .if1 .taken ∙ c .before .path-at2 .ensures))
 
--- src/cliques.rt:42:9
 guard-of-requires : tie.Need-guard-of-requires
 guard-of-requires c κs = search needs
 
--- src/cliques.rt:35:1
 returns-2 : tie.Need-returns-2
 returns-2 c = rw (ne-eqb _ _ (λ e. c .before .if1 .left (c .before .before .before .path-at .ensures ∙ e ∙ sym (c .before .before .path-at2 .ensures))), ← c .guard-of .ensures) (no-conflict (c .guard-of .result))
 

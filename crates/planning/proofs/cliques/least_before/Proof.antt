@@ -8,10 +8,6 @@ use Rattle.rules.specs.Scan.{least}
 use Rattle.laws.specs.Scans.{least-next}
 use Rattle.planning.proofs.cliques.least_before.Statement.{statement}
 use Rattle.planning.proofs.cliques.least_before.Tie as tie
-use Rattle.planning.proofs.cliques.least_before.Reads as reads
-use Rattle.planning.proofs.cliques.least_before.Lts as lts
-use Rattle.planning.proofs.cliques.guard_of.Reads as guard-of-reads
-use Rattle.planning.proofs.cliques.smaller.Reads as smaller-reads
 
 abbrev Inv-loop : tie.InvT-loop
 Inv-loop guards list j g₀ i₀ g i = (i ≤ j) × (g ≡ least 255 (λ i. at guards (cell (at list i) (at list j))) i)
@@ -19,32 +15,25 @@ Inv-loop guards list j g₀ i₀ g i = (i ≤ j) × (g ≡ least 255 (λ i. at g
 abbrev μ-loop : tie.MeasureT-loop
 μ-loop guards list j g₀ i₀ g i = j - i
 
--- src/cliques.rt:106:5
 loop-holds : tie.Need-loop-holds Inv-loop μ-loop
 unfolding least
 loop-holds c = (omega arith, refl)
 
--- src/cliques.rt:107:13
 guard-of-requires : tie.Need-guard-of-requires Inv-loop μ-loop
 guard-of-requires c κs = (omega arith, c .before .before .before .before .pre)
 
--- src/cliques.rt:108:9
 smaller-requires : tie.Need-smaller-requires Inv-loop μ-loop
 smaller-requires c κs = search needs
 
--- src/cliques.rt:109:9
 add-i : tie.Need-add-i Inv-loop μ-loop
 add-i c = omega arith
 
--- src/cliques.rt:106:5
 loop-less : tie.Need-loop-less Inv-loop μ-loop
 loop-less c = omega arith
 
--- src/cliques.rt:106:5
 loop-again : tie.Need-loop-again Inv-loop μ-loop
 loop-again c = (omega arith, c .smaller .ensures ∙ rw add-one (least-next 255 _ _ _ _ (c .before .before .before .loop .inv .1) (c .before .guard-of .ensures)))
 
--- src/cliques.rt:100:1
 returns : tie.Need-returns Inv-loop μ-loop
 returns c = let e : c .before .loop .i ≡ c .before .before .before .before .args .j = omega arith in rw e at (c .before .loop .inv .1)
 

@@ -11,10 +11,6 @@ use Rattle.laws.specs.Scans.{least-next}
 use Rattle.planning.specs.Listed.{Listed}
 use Rattle.planning.proofs.cliques.least_guard.Statement.{statement}
 use Rattle.planning.proofs.cliques.least_guard.Tie as tie
-use Rattle.planning.proofs.cliques.least_guard.Reads as reads
-use Rattle.planning.proofs.cliques.least_guard.Lts as lts
-use Rattle.planning.proofs.cliques.least_before.Reads as least-before-reads
-use Rattle.planning.proofs.cliques.smaller.Reads as smaller-reads
 
 abbrev Inv-loop : tie.InvT-loop
 Inv-loop guards list g₀ j₀ g j = (j ≤ length list) × (g ≡ least 255 (λ j. least 255 (λ i. at guards (cell (at list i) (at list j))) j) j)
@@ -22,7 +18,6 @@ Inv-loop guards list g₀ j₀ g j = (j ≤ length list) × (g ≡ least 255 (λ
 abbrev μ-loop : tie.MeasureT-loop
 μ-loop guards list g₀ j₀ g j = length list - j
 
--- src/cliques.rt:121:5
 loop-holds : tie.Need-loop-holds Inv-loop μ-loop
 unfolding least
 loop-holds c = (omega arith, refl)
@@ -30,27 +25,21 @@ loop-holds c = (omega arith, refl)
 pre : (c : tie.In-loop Inv-loop μ-loop) → Listed (c .before .before .before .before .args .guards .now) (c .before .before .before .before .args .list .now) (length (c .before .before .before .before .args .list .now))
 pre c = c .before .before .before .before .pre
 
--- src/cliques.rt:122:13
 least-before-requires : tie.Need-least-before-requires Inv-loop μ-loop
 least-before-requires c κs = record { fullGuards = pre c .fullGuards; room = omega arith; inside = λ i l. pre c .inside i (omega arith) }
 
--- src/cliques.rt:123:9
 smaller-requires : tie.Need-smaller-requires Inv-loop μ-loop
 smaller-requires c κs = search needs
 
--- src/cliques.rt:124:9
 add-j : tie.Need-add-j Inv-loop μ-loop
 add-j c = omega arith
 
--- src/cliques.rt:121:5
 loop-less : tie.Need-loop-less Inv-loop μ-loop
 loop-less c = omega arith
 
--- src/cliques.rt:121:5
 loop-again : tie.Need-loop-again Inv-loop μ-loop
 loop-again c = (omega arith, c .smaller .ensures ∙ rw add-one (least-next 255 _ _ _ _ (c .before .before .before .loop .inv .1) (c .before .least-before .ensures)))
 
--- src/cliques.rt:115:1
 returns : tie.Need-returns Inv-loop μ-loop
 unfolding leastGuard
 returns c = λ widths. let e : c .before .loop .j ≡ length (c .before .before .before .before .args .list .now) = omega arith in rw e at (c .before .loop .inv .1)

@@ -14,10 +14,6 @@ use Rattle.laws.specs.Limits.{outside-none}
 use borrow.Author.Needs.{needs}
 use Rattle.planning.proofs.cliques.list_fault.Statement.{statement}
 use Rattle.planning.proofs.cliques.list_fault.Tie as tie
-use Rattle.planning.proofs.cliques.list_fault.Reads as reads
-use Rattle.planning.proofs.cliques.list_fault.Lts as lts
-use Rattle.planning.proofs.cliques.member_fault.Reads as member-fault-reads
-use Rattle.tables.proofs.refused.Reads as refused-reads
 
 list-long : (n : ℕ) (net : Net) (list : List ℕ) → outside 1 8 (length list) ≡ true → fault 15 0 ≡ listFault n net list
 unfolding listFault
@@ -31,27 +27,21 @@ or-true : (b : Bool) → (b || true) ≡ true
 or-true true = refl
 or-true false = refl
 
--- src/cliques.rt:83:9
 refused-requires : tie.Need-refused-requires
 refused-requires c κs = search needs
 
--- src/cliques.rt:83:9
 returns : tie.Need-returns
 returns c = λ widths. c .refused .ensures ∙ list-long (c .before .before .before .before .args .n) (netOf widths (c .before .before .before .before .args .guards .now)) (c .before .before .before .before .args .list .now) (rw (lt-ltb (length (c .before .before .before .before .args .list .now)) 1 (c .before .if1 .taken)))
 
--- src/cliques.rt:86:9
 refused-requires-2 : tie.Need-refused-requires-2
 refused-requires-2 c κs = search needs
 
--- src/cliques.rt:86:9
 returns-2 : tie.Need-returns-2
 returns-2 c = λ widths. c .refused2 .ensures ∙ list-long (c .before .before .before .before .before .args .n) (netOf widths (c .before .before .before .before .before .args .guards .now)) (c .before .before .before .before .before .args .list .now) (rw (lt-ltb 8 (length (c .before .before .before .before .before .args .list .now)) (c .before .if2 .taken)) (or-true (ltb (length (c .before .before .before .before .before .args .list .now)) 1)))
 
--- src/cliques.rt:88:5
 member-fault-requires : tie.Need-member-fault-requires
 member-fault-requires c κs = c .before .before .before .before .pre
 
--- src/cliques.rt:78:1
 returns-3 : tie.Need-returns-3
 returns-3 c = λ widths. list-on (c .before .before .before .before .before .args .n) (netOf widths (c .before .before .before .before .before .args .guards .now)) (c .before .before .before .before .before .args .list .now) (c .member-fault .result) (omega arith) (omega arith) (c .member-fault .ensures widths)
 

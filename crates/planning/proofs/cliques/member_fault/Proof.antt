@@ -14,12 +14,6 @@ use Rattle.rules.specs.Numbers.{badMember}
 use Rattle.laws.specs.Faults.{scan-at, scan-none}
 use Rattle.planning.proofs.cliques.member_fault.Statement.{statement}
 use Rattle.planning.proofs.cliques.member_fault.Tie as tie
-use Rattle.planning.proofs.cliques.member_fault.Reads as reads
-use Rattle.planning.proofs.cliques.member_fault.Lts as lts
-use Rattle.planning.proofs.cliques.has_stranger.Reads as has-stranger-reads
-use Rattle.planning.proofs.cliques.path_at.Reads as path-at-reads
-use Rattle.tables.proofs.accepted.Reads as accepted-reads
-use Rattle.tables.proofs.refused.Reads as refused-reads
 
 abbrev Inv-loop : tie.InvT-loop
 Inv-loop n guards list k₀ k = (k ≤ length list) × ((i : ℕ) → i < k → at list i < n) × ((i : ℕ) → i < k → badMember n (netOf [] guards) list i ≡ false)
@@ -41,51 +35,39 @@ known c = rw (← c .before .path-at .ensures) (omega arith)
 entry : (c : tie.Else1 Inv-loop μ-loop) → at (c .before .before .before .before .before .before .args .list .now) (c .before .before .before .loop .k) < 128
 entry c = omega (arith, known c, c .before .before .before .before .before .before .pre .0)
 
--- src/cliques.rt:65:5
 loop-holds : tie.Need-loop-holds Inv-loop μ-loop
 loop-holds c = (omega arith, below-none _, below-none _)
 
--- src/cliques.rt:66:17
 path-at-requires : tie.Need-path-at-requires Inv-loop μ-loop
 path-at-requires c κs = omega arith
 
--- src/cliques.rt:67:13
 refused-requires : tie.Need-refused-requires Inv-loop μ-loop
 refused-requires c κs = search needs
 
--- src/cliques.rt:67:13
 returns : tie.Need-returns Inv-loop μ-loop
 returns c = λ widths. c .refused .ensures ∙ sym (scan-at 15 _ _ _ (c .before .before .before .before .loop .inv .2) (rw (le-leb _ _ (rw (c .before .before .path-at .ensures) at (c .before .if1 .taken)))) (c .before .before .before .loop-test .taken))
 
--- src/cliques.rt:69:12
 has-stranger-requires : tie.Need-has-stranger-requires Inv-loop μ-loop
 has-stranger-requires c κs = record { fullGuards = c .before .before .before .before .before .before .pre .1; room = omega arith; inside = below-more _ _ (λ i l. omega (arith, c .before .before .before .loop .inv .1 i l, c .before .before .before .before .before .before .pre .0)) (entry c) }
 
--- src/cliques.rt:70:13
 refused-requires-2 : tie.Need-refused-requires-2 Inv-loop μ-loop
 refused-requires-2 c κs = search needs
 
--- src/cliques.rt:70:13
 returns-2 : tie.Need-returns-2 Inv-loop μ-loop
 returns-2 c = λ widths. c .refused2 .ensures ∙ sym (scan-at 15 _ _ _ (c .before .before .before .before .before .before .loop .inv .2) (bad-entry (c .before .before .before .before .before .before .before .before .before .args .n) (at (c .before .before .before .before .before .before .before .before .before .args .list .now) (c .before .before .before .before .before .before .loop .k)) _ (sym (c .before .before .has-stranger .ensures) ∙ c .before .if2 .taken)) (c .before .before .before .before .before .loop-test .taken))
 
--- src/cliques.rt:72:9
 add-k : tie.Need-add-k Inv-loop μ-loop
 add-k c = omega arith
 
--- src/cliques.rt:65:5
 loop-less : tie.Need-loop-less Inv-loop μ-loop
 loop-less c = omega arith
 
--- src/cliques.rt:65:5
 loop-again : tie.Need-loop-again Inv-loop μ-loop
 loop-again c = (omega arith, below-more _ _ (c .before .before .before .before .before .loop .inv .1) (known (c .before .before)), below-more _ _ (c .before .before .before .before .before .loop .inv .2) (rw (lt-leb _ _ (known (c .before .before)), ← c .before .has-stranger .ensures) (c .if2 .left)))
 
--- src/cliques.rt:74:5
 accepted-requires : tie.Need-accepted-requires Inv-loop μ-loop
 accepted-requires c κs = search needs
 
--- src/cliques.rt:60:1
 returns-3 : tie.Need-returns-3 Inv-loop μ-loop
 returns-3 c = λ widths. let e : c .before .before .loop .k ≡ length (c .before .before .before .before .before .args .list .now) = omega arith in c .accepted .ensures ∙ sym (scan-none 15 _ _ (rw e at (c .before .before .loop .inv .2)))
 

@@ -8,9 +8,6 @@ use Rattle.rules.specs.Scan.{sum}
 use Rattle.laws.specs.Scans.{sum-next}
 use Rattle.planning.proofs.cliques.widths_added.Statement.{statement}
 use Rattle.planning.proofs.cliques.widths_added.Tie as tie
-use Rattle.planning.proofs.cliques.widths_added.Reads as reads
-use Rattle.planning.proofs.cliques.widths_added.Lts as lts
-use Rattle.planning.proofs.cliques.path_at.Reads as path-at-reads
 
 abbrev Inv-loop : tie.InvT-loop
 Inv-loop widths list w₀ i₀ w i = (i ≤ length list) × (w ≡ sum (λ k. at widths (at list k)) i) × (w ≤ 64 * i)
@@ -24,44 +21,34 @@ entry c =
     let s = c .before .before .before .before .before in
     rw (c .path-at .ensures) (s .pre .1 .1 (c .before .before .loop .i) (c .before .loop-test .taken))
 
--- src/cliques.rt:136:5
 loop-holds : tie.Need-loop-holds Inv-loop μ-loop
 unfolding sum
 loop-holds c = (omega arith, refl, omega arith)
 
--- src/cliques.rt:137:13
 path-at-requires : tie.Need-path-at-requires Inv-loop μ-loop
 path-at-requires c κs = omega arith
 
--- src/cliques.rt:138:14
 mul-w : tie.Need-mul-w Inv-loop μ-loop
 mul-w c = omega (arith, entry c)
 
--- src/cliques.rt:138:14
 shared-slice-read-w : tie.Need-shared-slice-read-w Inv-loop μ-loop
 shared-slice-read-w c = omega (arith, entry (c .before))
 
--- src/cliques.rt:138:14
 cast-w : tie.Need-cast-w Inv-loop μ-loop
 cast-w c = omega (arith, entry (c .before))
 
--- src/cliques.rt:138:9
 add-w : tie.Need-add-w Inv-loop μ-loop
 add-w c = omega (arith, entry (c .before))
 
--- src/cliques.rt:139:9
 add-i : tie.Need-add-i Inv-loop μ-loop
 add-i c = omega arith
 
--- src/cliques.rt:136:5
 loop-less : tie.Need-loop-less Inv-loop μ-loop
 loop-less c = omega arith
 
--- src/cliques.rt:136:5
 loop-again : tie.Need-loop-again Inv-loop μ-loop
 loop-again c = (omega arith, rw add-one (sum-next (λ k. at (c .before .before .before .before .before .before .args .widths .now) (at (c .before .before .before .before .before .before .args .list .now) k)) _ _ _ (c .before .before .before .loop .inv .1) (rw (c .before .path-at .ensures))), omega (arith, entry (c .before)))
 
--- src/cliques.rt:130:1
 returns : tie.Need-returns Inv-loop μ-loop
 returns c = let e : c .before .loop .i ≡ length (c .before .before .before .before .args .list .now) = omega arith in (rw e at (c .before .loop .inv .1), omega arith)
 

@@ -5,20 +5,13 @@ use Rattle.rules.specs.Planning.{draw}
 use borrow.Author.Needs.{needs}
 use Rattle.planning.proofs.draws.next_state.Statement.{statement}
 use Rattle.planning.proofs.draws.next_state.Tie as tie
-use Rattle.planning.proofs.draws.next_state.Reads as reads
-use Rattle.planning.proofs.draws.next_state.Lts as lts
-use Rattle.planning.proofs.draws.wrapping_mul_u32.Reads as wrapping-mul-u32-reads
-use Rattle.std.proofs.num.wrapping_add_u32.Reads as wrapping-add-u32-reads
 
--- src/draws.rt:24:32
 wrapping-mul-u32-requires : tie.Need-wrapping-mul-u32-requires
 wrapping-mul-u32-requires c κs = search needs
 
--- src/draws.rt:24:5
 wrapping-add-u32-requires : tie.Need-wrapping-add-u32-requires
 wrapping-add-u32-requires c κs = search needs
 
--- src/draws.rt:21:1
 returns : tie.Need-returns
 unfolding draw
 returns c = c .wrapping-add-u32 .ensures ∙ ap (λ (m : ℕ). _%_ (m + 1013904223) (2 ^ 32)) (c .before .wrapping-mul-u32 .ensures) ∙ mod-add-mod _ _ _

@@ -7,21 +7,16 @@ use Rattle.laws.specs.Improve.{place-below}
 use borrow.Author.Needs.{needs}
 use Rattle.planning.proofs.draws.place_of.Statement.{statement}
 use Rattle.planning.proofs.draws.place_of.Tie as tie
-use Rattle.planning.proofs.draws.place_of.Reads as reads
-use Rattle.planning.proofs.draws.place_of.Lts as lts
 
 high : (c : tie.Start) → c .args .x / 65536 ≤ 65535
 high c = omega arith
 
--- src/draws.rt:32:13
 cast-h : tie.Need-cast-h
 cast-h c = search needs
 
--- src/draws.rt:33:5
 mul-result : tie.Need-mul-result
 mul-result c = omega (arith, mul-le-mul-right (c .args .n) (high c))
 
--- src/draws.rt:28:1
 returns : tie.Need-returns
 unfolding drawnPlace
 returns c = (refl, place-below (c .args .n) (c .args .x) (c .pre .0) (omega arith))

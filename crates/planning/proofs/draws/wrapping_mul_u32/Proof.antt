@@ -4,15 +4,10 @@ use native.Mathlib.Nat.{mul-le-mul-left, lt-of-le-of-lt, le-of-lt}
 use borrow.Author.Needs.{needs}
 use Rattle.planning.proofs.draws.wrapping_mul_u32.Statement.{statement}
 use Rattle.planning.proofs.draws.wrapping_mul_u32.Tie as tie
-use Rattle.planning.proofs.draws.wrapping_mul_u32.Reads as reads
-use Rattle.planning.proofs.draws.wrapping_mul_u32.Lts as lts
-use Rattle.planning.proofs.draws.wide.Reads as wide-reads
 
--- src/draws.rt:17:6
 wide-requires : tie.Need-wide-requires
 wide-requires c κs = search needs
 
--- src/draws.rt:17:16
 wide-requires-2 : tie.Need-wide-requires-2
 wide-requires-2 c κs = search needs
 
@@ -23,11 +18,9 @@ product a b ha hb = lt-of-le-of-lt (mul-le-mul-left a (le-of-lt hb)) (omega arit
 mul-result : tie.Need-mul-result
 mul-result c = record { fits = product (c .before .wide .result) (c .wide2 .result) (omega arith) (omega arith) }
 
--- src/draws.rt:17:5
 cast-result : tie.Need-cast-result
 cast-result c = search needs
 
--- src/draws.rt:14:1
 returns : tie.Need-returns
 returns c = rw (c .before .wide .ensures, c .wide2 .ensures)
 

@@ -8,11 +8,6 @@ use Rattle.rules.specs.Tables.{at}
 use Rattle.laws.specs.Growing.{Growing, growing-first, growing-below, growing-bound, growing-more, growing-last}
 use Rattle.planning.proofs.greedy.greedy_order.Statement.{statement}
 use Rattle.planning.proofs.greedy.greedy_order.Tie as tie
-use Rattle.planning.proofs.greedy.greedy_order.Reads as reads
-use Rattle.planning.proofs.greedy.greedy_order.Lts as lts
-use Rattle.packing.proofs.least_unmarked.Reads as least-unmarked-reads
-use Rattle.packing.proofs.lowest_starts.Reads as lowest-starts-reads
-use Rattle.packing.proofs.raise.Reads as raise-reads
 
 abbrev Inv-loop : tie.InvT-loop
 Inv-loop n widths guards order₀ need₀ marks₀ m₀ order need marks m = ((table : List ℕ) → length table ≡ 128 → Growing n widths guards order₀ table order marks need m)
@@ -51,82 +46,63 @@ turn c =
       room = omega (arith, g .arranging .long, s .pre .1);
     }
 
--- src/greedy.rt:17:31
 slice-aggregate-lowest-starts : tie.Need-slice-aggregate-lowest-starts Inv-loop μ-loop
 slice-aggregate-lowest-starts c = search needs
 
--- src/greedy.rt:17:5
 lowest-starts-requires : tie.Need-lowest-starts-requires Inv-loop μ-loop
 lowest-starts-requires c κs = omega arith
 
--- src/greedy.rt:20:5
 loop-holds : tie.Need-loop-holds Inv-loop μ-loop
 loop-holds c = λ table l.
     let s = c .before .before .before .before .before .before in
     let u = c .before .lowest-starts .ensures in
     growing-first (s .args .n) (s .args .widths .now) (s .args .guards .now) (s .args .order .now) table (s .pre .0) (s .pre .1) l (replicate 128 0) _ refl (u .long) (λ k g. getD-replicate 128 k 0 0 (omega (arith, s .pre .0 .few))) (λ k g. u .done k g)
 
--- src/greedy.rt:21:44
 slice-aggregate-least-unmarked : tie.Need-slice-aggregate-least-unmarked Inv-loop μ-loop
 slice-aggregate-least-unmarked c = let e = so-far (c .before .before) .stands .wide in search needs
 
--- src/greedy.rt:21:51
 slice-aggregate-least-unmarked-2 : tie.Need-slice-aggregate-least-unmarked-2 Inv-loop μ-loop
 slice-aggregate-least-unmarked-2 c = let e = so-far (c .before .before .before) .arranging .full in search needs
 
--- src/greedy.rt:21:13
 least-unmarked-requires : tie.Need-least-unmarked-requires Inv-loop μ-loop
 least-unmarked-requires c κs = omega (arith, so-far (c .before .before .before) .stands .wide, so-far (c .before .before .before) .arranging .full, c .before .before .before .before .before .before .before .before .before .before .pre .0 .few)
 
--- src/greedy.rt:22:20
 mul-base : tie.Need-mul-base Inv-loop μ-loop
 mul-base c = omega (arith, turn c)
 
--- src/greedy.rt:22:20
 array-read-base : tie.Need-array-read-base Inv-loop μ-loop
 array-read-base c = omega (arith, turn c)
 
--- src/greedy.rt:22:30
 mul-base-2 : tie.Need-mul-base-2 Inv-loop μ-loop
 mul-base-2 c = omega (arith, turn c)
 
--- src/greedy.rt:22:30
 shared-slice-read-base : tie.Need-shared-slice-read-base Inv-loop μ-loop
 shared-slice-read-base c = omega (arith, turn (c .before))
 
--- src/greedy.rt:22:20
 add-base : tie.Need-add-base Inv-loop μ-loop
 add-base c = omega (arith, turn (c .before))
 
--- src/greedy.rt:23:20
 cast-order : tie.Need-cast-order Inv-loop μ-loop
 cast-order c = omega (arith, turn (c .before))
 
--- src/greedy.rt:23:9
 slice-write-order : tie.Need-slice-write-order Inv-loop μ-loop
 slice-write-order c = omega (arith, turn (c .before))
 
--- src/greedy.rt:24:9
 array-write-marks : tie.Need-array-write-marks Inv-loop μ-loop
 array-write-marks c = omega (arith, turn (c .before))
 
--- src/greedy.rt:25:44
 slice-aggregate-raise : tie.Need-slice-aggregate-raise Inv-loop μ-loop
 slice-aggregate-raise c = let e = so-far (c .before .before .before .before .before .before) .stands .wide in search needs
 
--- src/greedy.rt:25:9
 raise-requires : tie.Need-raise-requires Inv-loop μ-loop
 raise-requires c κs = omega (arith, turn (c .before .before))
 
--- src/greedy.rt:26:9
 add-m : tie.Need-add-m Inv-loop μ-loop
 add-m c = omega arith
 
--- src/greedy.rt:20:5
 loop-less : tie.Need-loop-less Inv-loop μ-loop
 loop-less c = omega arith
 
--- src/greedy.rt:20:5
 loop-again : tie.Need-loop-again Inv-loop μ-loop
 loop-again c = λ table l.
     let d = c .before .before .before .before in
@@ -134,11 +110,9 @@ loop-again c = λ table l.
     let s = d .before .before .before .before .before .before .before .before .before .before .before in
     growing-more (s .args .n) (s .args .widths .now) (s .args .guards .now) (s .args .order .now) table (s .pre .0) (s .pre .1) l (h .loop .order) (h .loop .marks) (h .loop .need) (h .loop .m) (h .loop .inv table l) (d .before .before .before .loop-test .taken) (d .least-unmarked .result) (d .least-unmarked .ensures) _ _ _ refl refl (c .before .raise .ensures)
 
--- src/greedy.rt:12:1
 same-length : tie.Need-same-length Inv-loop μ-loop
 same-length c = so-far (c .before) .arranging .long
 
--- src/greedy.rt:12:1
 returns : tie.Need-returns Inv-loop μ-loop
 returns c = λ table l.
     let s = c .before .before .before .before .before .before .before .before in

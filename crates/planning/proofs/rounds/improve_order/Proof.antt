@@ -4,10 +4,6 @@ use Prim.Native.Nat.{_≤_, _-_}
 use mathlib.Core.Path.{_≡_, refl, sym, _∙_}
 use Rattle.planning.proofs.rounds.improve_order.Statement.{statement}
 use Rattle.planning.proofs.rounds.improve_order.Tie as tie
-use Rattle.planning.proofs.rounds.improve_order.Reads as reads
-use Rattle.planning.proofs.rounds.improve_order.Lts as lts
-use Rattle.packing.proofs.height_of.Reads as height-of-reads
-use Rattle.planning.proofs.rounds.one_round.Reads as one-round-reads
 
 abbrev Inv-loop : tie.InvT-loop
 Inv-loop n widths guards order₀ seed count h run₀ k₀ order run k = (k ≤ count) × Improving n widths guards order₀ seed order run k
@@ -15,35 +11,27 @@ Inv-loop n widths guards order₀ seed count h run₀ k₀ order run k = (k ≤ 
 abbrev μ-loop : tie.MeasureT-loop
 μ-loop n widths guards order₀ seed count h run₀ k₀ order run k = count - k
 
--- src/rounds.rt:49:9
 height-of-requires : tie.Need-height-of-requires Inv-loop μ-loop
 height-of-requires c κs = let t = c .before .before .before .before .pre .0 in (t .network, (t .fullOrder, t .whole))
 
--- src/rounds.rt:56:5
 loop-holds : tie.Need-loop-holds Inv-loop μ-loop
 loop-holds c = let s = c .before .before .before .before .before in (omega arith, improving-first (s .args .n) (s .args .widths .now) (s .args .guards .now) (s .args .order .now) (s .args .seed) (s .pre .0) (c .height-of .result) (c .height-of .ensures))
 
--- src/rounds.rt:57:9
 one-round-requires : tie.Need-one-round-requires Inv-loop μ-loop
 one-round-requires c κs = (c .before .before .loop .inv .1 .tested, omega (arith, c .before .before .loop .inv .1 .few))
 
--- src/rounds.rt:58:9
 add-k : tie.Need-add-k Inv-loop μ-loop
 add-k c = omega arith
 
--- src/rounds.rt:56:5
 loop-less : tie.Need-loop-less Inv-loop μ-loop
 loop-less c = omega arith
 
--- src/rounds.rt:56:5
 loop-again : tie.Need-loop-again Inv-loop μ-loop
 loop-again c = let s = c .before .before .before .before .before .before .before .before .before .before .before in (omega arith, improving-more (s .args .n) (s .args .widths .now) (s .args .guards .now) (s .args .order .now) (s .args .seed) (s .pre .0) (c .before .before .before .before .before .loop .order) _ (c .before .before .before .before .before .loop .run) _ (c .before .before .before .before .before .loop .k) (c .before .before .before .before .before .loop .inv .1) (c .before .before .one-round .ensures))
 
--- src/rounds.rt:45:1
 same-length : tie.Need-same-length Inv-loop μ-loop
 same-length c = let s = c .before .before .before .before .before .before .before in c .before .loop .inv .1 .tested .fullOrder ∙ sym (s .pre .0 .fullOrder)
 
--- src/rounds.rt:45:1
 returns : tie.Need-returns Inv-loop μ-loop
 returns c = λ table l. let e : c .before .loop .k ≡ c .before .before .before .before .before .before .before .args .count = omega arith in c .before .loop .inv .1 .run table l ∙ rw e
 

@@ -4,63 +4,45 @@ use Rattle.planning.specs.Standing.{highestOf}
 use borrow.Author.Needs.{needs}
 use Rattle.planning.proofs.rounds.one_round.Statement.{statement}
 use Rattle.planning.proofs.rounds.one_round.Tie as tie
-use Rattle.planning.proofs.rounds.one_round.Reads as reads
-use Rattle.planning.proofs.rounds.one_round.Lts as lts
-use Rattle.packing.proofs.height_of.Reads as height-of-reads
-use Rattle.planning.proofs.draws.next_state.Reads as next-state-reads
-use Rattle.planning.proofs.draws.place_of.Reads as place-of-reads
-use Rattle.planning.proofs.draws.swap.Reads as swap-reads
 
--- src/rounds.rt:23:9
 next-state-requires : tie.Need-next-state-requires
 next-state-requires c κs = search needs
 
--- src/rounds.rt:24:9
 next-state-requires-2 : tie.Need-next-state-requires-2
 next-state-requires-2 c κs = search needs
 
--- src/rounds.rt:25:9
 place-of-requires : tie.Need-place-of-requires
 place-of-requires c κs = search needs
 
--- src/rounds.rt:26:9
 place-of-requires-2 : tie.Need-place-of-requires-2
 place-of-requires-2 c κs = search needs
 
--- src/rounds.rt:27:5
 swap-requires : tie.Need-swap-requires
 swap-requires c κs = search needs
 
--- src/rounds.rt:28:9
 height-of-requires : tie.Need-height-of-requires
 height-of-requires c κs = let s = c .before .before .before .before .before .before .before .before .before .before .before .before in
     let t = (swap-tried (s .args .n) (s .args .widths .now) (s .args .guards .now) (s .args .order .now) _ (c .before .before .before .before .before .before .place-of .result) (c .before .before .before .before .before .place-of2 .result) (s .pre .0) (c .before .before .before .before .before .before .place-of .ensures .1) (c .before .before .before .before .before .place-of2 .ensures .1) (c .before .before .before .swap .ensures)) in
     (t .network, (t .fullOrder, t .whole))
 
--- src/rounds.rt:33:19
 add-t17 : tie.Need-add-t17
 add-t17 c = search needs
 
--- src/rounds.rt:30:9
 same-length : tie.Need-same-length
 same-length c = search needs
 
--- src/rounds.rt:30:9
 returns : tie.Need-returns
 returns c = λ table l.
     let s = c .before .before .before .before .before .before .before .before .before .before .before .before .before .before .before .before in
     round-kept (highestOf (s .args .n) (s .args .widths .now) (s .args .guards .now) table) (s .args .n) (s .args .run) (s .args .order .now) _ (c .before .before .before .before .before .before .before .before .before .before .before .before .next-state .result) (c .before .before .before .before .before .before .before .before .before .before .before .next-state2 .result) (c .before .before .before .before .before .before .before .before .before .before .place-of .result) (c .before .before .before .before .before .before .before .before .before .place-of2 .result) (c .before .before .before .height-of .result)
     (c .before .before .before .before .before .before .before .before .before .before .before .before .next-state .ensures) (c .before .before .before .before .before .before .before .before .before .before .before .next-state2 .ensures) (c .before .before .before .before .before .before .before .before .before .before .place-of .ensures .0) (c .before .before .before .before .before .before .before .before .before .place-of2 .ensures .0) (c .before .before .before .before .before .before .before .swap .ensures) (c .before .before .before .height-of .ensures table l) (c .before .if1 .taken)
 
--- src/rounds.rt:36:5
 swap-requires-2 : tie.Need-swap-requires-2
 swap-requires-2 c κs = search needs
 
--- src/rounds.rt:19:1
 same-length-2 : tie.Need-same-length-2
 same-length-2 c = search needs
 
--- src/rounds.rt:19:1
 returns-2 : tie.Need-returns-2
 returns-2 c = λ table l.
     let s = c .before .before .before .before .before .before .before .before .before .before .before .before .before .before .before .before .before .before .before in

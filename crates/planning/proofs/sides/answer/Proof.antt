@@ -8,9 +8,6 @@ use Rattle.rules.specs.Tables.{at, cell}
 use Rattle.laws.specs.Updates.{Updated, update-none, update-more, update-all}
 use Rattle.planning.proofs.sides.answer.Statement.{statement}
 use Rattle.planning.proofs.sides.answer.Tie as tie
-use Rattle.planning.proofs.sides.answer.Reads as reads
-use Rattle.planning.proofs.sides.answer.Lts as lts
-use Rattle.planning.proofs.sides.answered.Reads as answered-reads
 
 abbrev Inv-loop : tie.InvT-loop
 Inv-loop n c other guards asked₀ k₀ asked k = (k ≤ n) × Updated (λ k x. cond (ltb (at guards (cell c k)) 255) other x) asked₀ asked k
@@ -18,53 +15,41 @@ Inv-loop n c other guards asked₀ k₀ asked k = (k ≤ n) × Updated (λ k x. 
 abbrev μ-loop : tie.MeasureT-loop
 μ-loop n c other guards asked₀ k₀ asked k = n - k
 
--- src/sides.rt:48:5
 loop-holds : tie.Need-loop-holds Inv-loop μ-loop
 loop-holds c = (search needs, update-none _ _)
 
--- src/sides.rt:49:24
 mul-g : tie.Need-mul-g Inv-loop μ-loop
 mul-g c = search needs
 
--- src/sides.rt:49:24
 add-g : tie.Need-add-g Inv-loop μ-loop
 add-g c = search needs
 
--- src/sides.rt:49:17
 shared-slice-read-g : tie.Need-shared-slice-read-g Inv-loop μ-loop
 shared-slice-read-g c = search needs
 
--- src/sides.rt:50:17
 slice-read-x : tie.Need-slice-read-x Inv-loop μ-loop
 slice-read-x c = search needs
 
--- src/sides.rt:51:20
 answered-requires : tie.Need-answered-requires Inv-loop μ-loop
 answered-requires c κs = search needs
 
--- src/sides.rt:51:9
 slice-write-asked : tie.Need-slice-write-asked Inv-loop μ-loop
 slice-write-asked c = search needs
 
--- src/sides.rt:52:9
 add-k : tie.Need-add-k Inv-loop μ-loop
 add-k c = search needs
 
--- src/sides.rt:48:5
 loop-less : tie.Need-loop-less Inv-loop μ-loop
 loop-less c = search needs
 
--- src/sides.rt:48:5
 loop-again : tie.Need-loop-again Inv-loop μ-loop
 loop-again c = let h = c .before .before .before .before in
     let a = h .before .before .before .args in
     (search needs, update-more _ (a .asked .now) (h .loop .asked) (h .loop .k) _ (h .loop .inv .1) (omega arith) (c .answered .ensures))
 
--- src/sides.rt:43:1
 same-length : tie.Need-same-length Inv-loop μ-loop
 same-length c = search needs
 
--- src/sides.rt:43:1
 returns : tie.Need-returns Inv-loop μ-loop
 returns c = update-all _ _ _ _ _ (c .before .loop .inv .1) (omega arith)
 

@@ -12,9 +12,6 @@ use Rattle.rules.specs.Sides.{sameMark}
 use Rattle.laws.specs.Scans.{found-at, found-none}
 use Rattle.planning.proofs.sides.are_sides.Statement.{statement}
 use Rattle.planning.proofs.sides.are_sides.Tie as tie
-use Rattle.planning.proofs.sides.are_sides.Reads as reads
-use Rattle.planning.proofs.sides.are_sides.Lts as lts
-use Rattle.planning.proofs.sides.row_alike.Reads as row-alike-reads
 
 abbrev Inv-loop : tie.InvT-loop
 Inv-loop n guards mark i₀ i = (i ≤ n) × ((k : ℕ) → k < i → found (sameMark (netOf [] guards) (at mark) k) n ≡ false)
@@ -22,34 +19,27 @@ Inv-loop n guards mark i₀ i = (i ≤ n) × ((k : ℕ) → k < i → found (sam
 abbrev μ-loop : tie.MeasureT-loop
 μ-loop n guards mark i₀ i = n - i
 
--- src/sides.rt:121:5
 loop-holds : tie.Need-loop-holds Inv-loop μ-loop
 loop-holds c = (omega arith, below-none _)
 
--- src/sides.rt:122:12
 row-alike-requires : tie.Need-row-alike-requires Inv-loop μ-loop
 row-alike-requires c κs = search needs
 
--- src/sides.rt:123:13
 returns : tie.Need-returns Inv-loop μ-loop
 unfolding foundPair sameMark
 returns c = λ widths.
     let s = c .before .before .before .before .before .before in
     sym (ap not (found-at (λ i. found (sameMark (netOf [] (s .args .guards .now)) (at (s .args .mark .now)) i) (s .args .n)) (s .args .n) (c .before .before .before .loop .i) (c .before .before .loop-test .taken) (sym (c .before .row-alike .ensures []) ∙ c .if1 .taken)))
 
--- src/sides.rt:125:9
 add-i : tie.Need-add-i Inv-loop μ-loop
 add-i c = omega arith
 
--- src/sides.rt:121:5
 loop-less : tie.Need-loop-less Inv-loop μ-loop
 loop-less c = omega arith
 
--- src/sides.rt:121:5
 loop-again : tie.Need-loop-again Inv-loop μ-loop
 loop-again c = (omega arith, below-more _ _ (c .before .before .before .loop .inv .1) (sym (c .before .row-alike .ensures []) ∙ c .if1 .left))
 
--- src/sides.rt:116:1
 returns-2 : tie.Need-returns-2 Inv-loop μ-loop
 unfolding foundPair sameMark
 returns-2 c = λ widths.

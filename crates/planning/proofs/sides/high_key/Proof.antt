@@ -1,14 +1,10 @@
 use borrow.Author.Tests.{lt-ltb, le-ltb, eq-eqb, ne-eqb}
 use Rattle.planning.proofs.sides.high_key.Statement.{statement}
 use Rattle.planning.proofs.sides.high_key.Tie as tie
-use Rattle.planning.proofs.sides.high_key.Reads as reads
-use Rattle.planning.proofs.sides.high_key.Lts as lts
 
--- src/sides.rt:131:1
 returns : tie.Need-returns
 returns c = rw (eq-eqb _ _ (c .if1 .taken))
 
--- src/sides.rt:131:1
 returns-2 : tie.Need-returns-2
 returns-2 c = rw (ne-eqb _ _ (c .if1 .left))
 

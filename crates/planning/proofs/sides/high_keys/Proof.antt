@@ -8,9 +8,6 @@ use Rattle.rules.specs.Tables.{at, cell}
 use Rattle.laws.specs.Updates.{Updated, update-none, update-more, update-all}
 use Rattle.planning.proofs.sides.high_keys.Statement.{statement}
 use Rattle.planning.proofs.sides.high_keys.Tie as tie
-use Rattle.planning.proofs.sides.high_keys.Reads as reads
-use Rattle.planning.proofs.sides.high_keys.Lts as lts
-use Rattle.planning.proofs.sides.high_key.Reads as high-key-reads
 
 abbrev Inv-loop : tie.InvT-loop
 Inv-loop n mark keys₀ k₀ keys k = (k ≤ n) × Updated (λ k x. cond (eqb (at mark k) 2) 1 0) keys₀ keys k
@@ -18,45 +15,35 @@ Inv-loop n mark keys₀ k₀ keys k = (k ≤ n) × Updated (λ k x. cond (eqb (a
 abbrev μ-loop : tie.MeasureT-loop
 μ-loop n mark keys₀ k₀ keys k = n - k
 
--- src/sides.rt:142:5
 loop-holds : tie.Need-loop-holds Inv-loop μ-loop
 loop-holds c = (search needs, update-none _ _)
 
--- src/sides.rt:143:28
 shared-slice-read-high-key : tie.Need-shared-slice-read-high-key Inv-loop μ-loop
 shared-slice-read-high-key c = search needs
 
--- src/sides.rt:143:19
 high-key-requires : tie.Need-high-key-requires Inv-loop μ-loop
 high-key-requires c κs = search needs
 
--- src/sides.rt:143:9
 mul-keys : tie.Need-mul-keys Inv-loop μ-loop
 mul-keys c = search needs
 
--- src/sides.rt:143:9
 slice-write-keys : tie.Need-slice-write-keys Inv-loop μ-loop
 slice-write-keys c = search needs
 
--- src/sides.rt:144:9
 add-k : tie.Need-add-k Inv-loop μ-loop
 add-k c = search needs
 
--- src/sides.rt:142:5
 loop-less : tie.Need-loop-less Inv-loop μ-loop
 loop-less c = search needs
 
--- src/sides.rt:142:5
 loop-again : tie.Need-loop-again Inv-loop μ-loop
 loop-again c = let h = c .before .before .before in
     let a = h .before .before .before .args in
     (search needs, update-more _ (a .keys .now) (h .loop .keys) (h .loop .k) _ (h .loop .inv .1) (omega arith) (c .high-key .ensures))
 
--- src/sides.rt:137:1
 same-length : tie.Need-same-length Inv-loop μ-loop
 same-length c = search needs
 
--- src/sides.rt:137:1
 returns : tie.Need-returns Inv-loop μ-loop
 returns c = update-all _ _ _ _ _ (c .before .loop .inv .1) (omega arith)
 

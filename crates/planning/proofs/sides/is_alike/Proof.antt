@@ -2,18 +2,13 @@ use borrow.Author.Tests.{lt-ltb, le-ltb, eq-eqb, ne-eqb}
 use native.Mathlib.Omega.{arith}
 use Rattle.planning.proofs.sides.is_alike.Statement.{statement}
 use Rattle.planning.proofs.sides.is_alike.Tie as tie
-use Rattle.planning.proofs.sides.is_alike.Reads as reads
-use Rattle.planning.proofs.sides.is_alike.Lts as lts
 
--- src/sides.rt:89:9
 returns : tie.Need-returns
 returns c = rw (le-ltb _ _ (c .if1 .taken))
 
--- src/sides.rt:92:9
 returns-2 : tie.Need-returns-2
 returns-2 c = rw (lt-ltb (c .before .before .args .i) (c .before .before .args .j) (omega arith), le-ltb (c .before .before .args .g) 255 (c .if2 .taken))
 
--- src/sides.rt:85:1
 returns-3 : tie.Need-returns-3
 returns-3 c = rw (lt-ltb (c .before .before .args .i) (c .before .before .args .j) (omega arith), lt-ltb (c .before .before .args .g) 255 (omega arith))
 

@@ -11,9 +11,6 @@ use Rattle.rules.specs.Sides.{lowSide}
 use Rattle.laws.specs.Scans.{sum-next}
 use Rattle.planning.proofs.sides.low_paths.Statement.{statement}
 use Rattle.planning.proofs.sides.low_paths.Tie as tie
-use Rattle.planning.proofs.sides.low_paths.Reads as reads
-use Rattle.planning.proofs.sides.low_paths.Lts as lts
-use Rattle.planning.proofs.sides.low_count.Reads as low-count-reads
 
 abbrev Inv-loop : tie.InvT-loop
 Inv-loop n mark low₀ k₀ low k = (k ≤ n) × (low ≡ sum (λ i. cond (eqb (at mark i) 2) 0 1) k) × (low ≤ k)
@@ -28,36 +25,28 @@ one c = rw (c .low-count .ensures) (go (eqb (at (c .before .before .before .befo
     go true = omega arith
     go false = omega arith
 
--- src/sides.rt:165:5
 loop-holds : tie.Need-loop-holds Inv-loop μ-loop
 unfolding sum
 loop-holds c = (omega arith, refl, omega arith)
 
--- src/sides.rt:166:26
 shared-slice-read-low-count : tie.Need-shared-slice-read-low-count Inv-loop μ-loop
 shared-slice-read-low-count c = search needs
 
--- src/sides.rt:166:16
 low-count-requires : tie.Need-low-count-requires Inv-loop μ-loop
 low-count-requires c κs = search needs
 
--- src/sides.rt:166:9
 add-low : tie.Need-add-low Inv-loop μ-loop
 add-low c = omega (arith, one c)
 
--- src/sides.rt:167:9
 add-k : tie.Need-add-k Inv-loop μ-loop
 add-k c = omega arith
 
--- src/sides.rt:165:5
 loop-less : tie.Need-loop-less Inv-loop μ-loop
 loop-less c = omega arith
 
--- src/sides.rt:165:5
 loop-again : tie.Need-loop-again Inv-loop μ-loop
 loop-again c = (omega arith, rw add-one (sum-next (λ i. cond (eqb (at (c .before .before .before .before .before .args .mark .now) i) 2) 0 1) _ _ _ (c .before .before .before .loop .inv .1) (c .low-count .ensures)), omega (arith, one c))
 
--- src/sides.rt:159:1
 returns : tie.Need-returns Inv-loop μ-loop
 unfolding lowSide
 returns c = let e : c .before .loop .k ≡ c .before .before .before .args .n = omega arith in rw e at (c .before .loop .inv .1)

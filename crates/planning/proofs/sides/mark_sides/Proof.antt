@@ -9,11 +9,6 @@ use Rattle.laws.specs.Tables.{cleared-length}
 use Rattle.laws.specs.Spreading.{Spreading, spreading-first, spreading-below, spreading-more, spreading-last}
 use Rattle.planning.proofs.sides.mark_sides.Statement.{statement}
 use Rattle.planning.proofs.sides.mark_sides.Tie as tie
-use Rattle.planning.proofs.sides.mark_sides.Reads as reads
-use Rattle.planning.proofs.sides.mark_sides.Lts as lts
-use Rattle.packing.proofs.least_unmarked.Reads as least-unmarked-reads
-use Rattle.planning.proofs.sides.answer.Reads as answer-reads
-use Rattle.planning.proofs.sides.touch.Reads as touch-reads
 
 abbrev Inv-loop : tie.InvT-loop
 Inv-loop n guards mark₀ keys₀ asked₀ m₀ mark keys asked m = ((widths : List ℕ) → Spreading n widths guards mark keys asked m)
@@ -40,57 +35,44 @@ turn c =
     let k = spreading-below (s .args .n) [] (s .args .guards .now) (s .pre .0) (h .loop .mark) (h .loop .keys) (h .loop .asked) (h .loop .m) p (c .before .before .before .loop-test .taken) (c .least-unmarked .result) (c .least-unmarked .ensures) in
     record { known = k; some = p .sides _ k .0; most = p .sides _ k .1; wide = p .fullAsked; room = p .fullMark; keyRoom = p .fullKeys }
 
--- src/sides.rt:65:5
 loop-holds : tie.Need-loop-holds Inv-loop μ-loop
 loop-holds c = λ widths.
     let s = c .before .before in
     spreading-first (s .args .n) widths (s .args .guards .now) (s .pre .0) _ (replicate 128 1) (replicate 128 1) (s .pre .1 .1) refl refl (λ k l. getD-replicate 128 k 1 0 (omega (arith, s .pre .0))) (λ k l. getD-replicate 128 k 1 0 (omega (arith, s .pre .0)))
 
--- src/sides.rt:66:44
 slice-aggregate-least-unmarked : tie.Need-slice-aggregate-least-unmarked Inv-loop μ-loop
 slice-aggregate-least-unmarked c = let e = c .before .before .loop .inv [] .fullKeys in search needs
 
--- src/sides.rt:66:13
 least-unmarked-requires : tie.Need-least-unmarked-requires Inv-loop μ-loop
 least-unmarked-requires c κs = let p = c .before .before .before .loop .inv [] in omega (arith, p .fullKeys, p .fullMark, c .before .before .before .before .before .before .pre .0)
 
--- src/sides.rt:67:17
 array-read-s : tie.Need-array-read-s Inv-loop μ-loop
 array-read-s c = omega (arith, turn c)
 
--- src/sides.rt:68:9
 slice-write-mark : tie.Need-slice-write-mark Inv-loop μ-loop
 slice-write-mark c = omega (arith, turn c)
 
--- src/sides.rt:69:29
 slice-aggregate-touch : tie.Need-slice-aggregate-touch Inv-loop μ-loop
 slice-aggregate-touch c = let e = c .before .before .before .before .before .loop .inv [] .fullKeys in search needs
 
--- src/sides.rt:69:9
 touch-requires : tie.Need-touch-requires Inv-loop μ-loop
 touch-requires c κs = omega (arith, turn (c .before))
 
--- src/sides.rt:70:22
 sub-answer : tie.Need-sub-answer Inv-loop μ-loop
 sub-answer c = omega (arith, turn (c .before .before .before))
 
--- src/sides.rt:70:37
 slice-aggregate-answer : tie.Need-slice-aggregate-answer Inv-loop μ-loop
 slice-aggregate-answer c = let e = c .before .before .before .before .before .before .before .before .loop .inv [] .fullAsked in search needs
 
--- src/sides.rt:70:9
 answer-requires : tie.Need-answer-requires Inv-loop μ-loop
 answer-requires c κs = omega (arith, turn (c .before .before .before .before))
 
--- src/sides.rt:71:9
 add-m : tie.Need-add-m Inv-loop μ-loop
 add-m c = omega arith
 
--- src/sides.rt:65:5
 loop-less : tie.Need-loop-less Inv-loop μ-loop
 loop-less c = omega arith
 
--- src/sides.rt:65:5
 loop-again : tie.Need-loop-again Inv-loop μ-loop
 loop-again c = λ widths.
     let d = c .before .before .before .before .before .before in
@@ -98,11 +80,9 @@ loop-again c = λ widths.
     let s = d .before .before .before .before .before .before .before in
     spreading-more (s .args .n) widths (s .args .guards .now) (s .pre .0) (h .loop .mark) (h .loop .keys) (h .loop .asked) (h .loop .m) (h .loop .inv widths) (d .before .before .before .loop-test .taken) (d .least-unmarked .result) (d .least-unmarked .ensures) _ _ _ refl (c .before .before .before .before .touch .ensures) (c .before .answer .ensures)
 
--- src/sides.rt:58:1
 same-length : tie.Need-same-length Inv-loop μ-loop
 same-length c = c .before .loop .inv [] .fullMark ∙ sym (ap length (c .before .before .before .before .pre .1 .1) ∙ cleared-length 128 0)
 
--- src/sides.rt:58:1
 returns : tie.Need-returns Inv-loop μ-loop
 returns c = λ widths. let s = c .before .before .before .before in spreading-last (s .args .n) widths (s .args .guards .now) (s .pre .0) _ _ _ _ (c .before .loop .inv widths) (c .loop-test .left)
 

@@ -4,32 +4,22 @@ use Rattle.laws.specs.Orders.{arranged-keys}
 use borrow.Author.Needs.{needs}
 use Rattle.planning.proofs.sides.order_sides.Statement.{statement}
 use Rattle.planning.proofs.sides.order_sides.Tie as tie
-use Rattle.planning.proofs.sides.order_sides.Reads as reads
-use Rattle.planning.proofs.sides.order_sides.Lts as lts
-use Rattle.packing.proofs.arrange.Reads as arrange-reads
-use Rattle.planning.proofs.sides.high_keys.Reads as high-keys-reads
 
--- src/sides.rt:154:24
 slice-aggregate-high-keys : tie.Need-slice-aggregate-high-keys
 slice-aggregate-high-keys c = search needs
 
--- src/sides.rt:154:5
 high-keys-requires : tie.Need-high-keys-requires
 high-keys-requires c κs = search needs
 
--- src/sides.rt:155:25
 slice-aggregate-arrange : tie.Need-slice-aggregate-arrange
 slice-aggregate-arrange c = search needs
 
--- src/sides.rt:155:5
 arrange-requires : tie.Need-arrange-requires
 arrange-requires c κs = search needs
 
--- src/sides.rt:149:1
 same-length : tie.Need-same-length
 same-length c = search needs
 
--- src/sides.rt:149:1
 returns : tie.Need-returns
 unfolding twoSided
 returns c = let s = c .before .before .before .before .before .before .before .before .before .before in

@@ -12,10 +12,6 @@ use Rattle.rules.specs.Sides.{sameMark}
 use Rattle.laws.specs.Scans.{found-none, found-suc}
 use Rattle.planning.proofs.sides.row_alike.Statement.{statement}
 use Rattle.planning.proofs.sides.row_alike.Tie as tie
-use Rattle.planning.proofs.sides.row_alike.Reads as reads
-use Rattle.planning.proofs.sides.row_alike.Lts as lts
-use Rattle.planning.proofs.sides.either.Reads as either-reads
-use Rattle.planning.proofs.sides.is_alike.Reads as is-alike-reads
 
 abbrev Inv-loop : tie.InvT-loop
 Inv-loop n i guards mark a any₀ j₀ any j = (j ≤ n) × (any ≡ found (λ k. ltb i k && (ltb (at guards (cell i k)) 255 && eqb a (at mark k))) j)
@@ -23,51 +19,39 @@ Inv-loop n i guards mark a any₀ j₀ any j = (j ≤ n) × (any ≡ found (λ k
 abbrev μ-loop : tie.MeasureT-loop
 μ-loop n i guards mark a any₀ j₀ any j = n - j
 
--- src/sides.rt:102:13
 shared-slice-read-a : tie.Need-shared-slice-read-a Inv-loop μ-loop
 shared-slice-read-a c = search needs
 
--- src/sides.rt:105:5
 loop-holds : tie.Need-loop-holds Inv-loop μ-loop
 loop-holds c = (search needs, sym (found-none _ 0 (below-none _)))
 
--- src/sides.rt:106:24
 mul-g : tie.Need-mul-g Inv-loop μ-loop
 mul-g c = search needs
 
--- src/sides.rt:106:24
 add-g : tie.Need-add-g Inv-loop μ-loop
 add-g c = search needs
 
--- src/sides.rt:106:17
 shared-slice-read-g : tie.Need-shared-slice-read-g Inv-loop μ-loop
 shared-slice-read-g c = search needs
 
--- src/sides.rt:107:17
 shared-slice-read-b : tie.Need-shared-slice-read-b Inv-loop μ-loop
 shared-slice-read-b c = search needs
 
--- src/sides.rt:108:13
 is-alike-requires : tie.Need-is-alike-requires Inv-loop μ-loop
 is-alike-requires c κs = search needs
 
--- src/sides.rt:109:9
 either-requires : tie.Need-either-requires Inv-loop μ-loop
 either-requires c κs = search needs
 
--- src/sides.rt:110:9
 add-j : tie.Need-add-j Inv-loop μ-loop
 add-j c = search needs
 
--- src/sides.rt:105:5
 loop-less : tie.Need-loop-less Inv-loop μ-loop
 loop-less c = search needs
 
--- src/sides.rt:105:5
 loop-again : tie.Need-loop-again Inv-loop μ-loop
 loop-again c = (search needs, c .either .ensures ∙ rw (c .before .before .before .before .before .loop .inv .1, c .before .is-alike .ensures, add-one) (sym (found-suc _ _)))
 
--- src/sides.rt:98:1
 returns : tie.Need-returns Inv-loop μ-loop
 unfolding sameMark
 returns c = λ widths. let e : c .before .loop .j ≡ c .before .before .before .before .before .args .n = omega arith in c .before .loop .inv .1 ∙ rw e

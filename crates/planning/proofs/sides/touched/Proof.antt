@@ -1,14 +1,10 @@
 use borrow.Author.Tests.{lt-ltb, le-ltb, eq-eqb, ne-eqb}
 use Rattle.planning.proofs.sides.touched.Statement.{statement}
 use Rattle.planning.proofs.sides.touched.Tie as tie
-use Rattle.planning.proofs.sides.touched.Reads as reads
-use Rattle.planning.proofs.sides.touched.Lts as lts
 
--- src/sides.rt:16:1
 returns : tie.Need-returns
 returns c = rw (lt-ltb _ _ (c .if1 .taken))
 
--- src/sides.rt:16:1
 returns-2 : tie.Need-returns-2
 returns-2 c = rw (le-ltb _ _ (c .if1 .left))
 
