@@ -1,6 +1,6 @@
 -- A table of marks: 1 for each path that stands among the first m of an order, and 0 for the others. It answers `placed` without a search.
 -- Assumes nothing.
-use Prim.Native.Nat.{ℕ, zero, suc, _+_, _≤_, _<_}
+use Prim.Native.Nat.{ℕ, zero, suc, _+_, _<_}
 use mathlib.Core.Path.{_≡_, refl, sym, subst, ap, _∙_}
 use mathlib.Core.Logic.{_≢_}
 use mathlib.Core.Bool.{Bool, true, false, cond, not}
@@ -13,7 +13,7 @@ use lib.Dec.{eqb}
 use borrow.Author.Tests.{eq-eqb, ne-eqb}
 use Rattle.rules.specs.Tables.{at}
 use Rattle.rules.specs.Packing.{placed}
-use Rattle.rules.specs.Pressing.{picked, choose}
+use Rattle.rules.specs.Pressing.{choose}
 use Rattle.laws.specs.Scans.{found-same}
 use Rattle.laws.specs.Tables.{at-same, at-other}
 use Rattle.laws.specs.Orders.{placed-none, placed-hit, placed-miss}
