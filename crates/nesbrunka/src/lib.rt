@@ -1,8 +1,11 @@
 // The library's C face: each call under its exported name, with the promise of the call itself. In C a slice is a pointer and then a length.
+use rules::Floored;
 use rules::Judged;
 use rules::Packed;
+use rules::Planned;
+use rules::Sided;
 ghost use mathlib.Core.Path.{_≡_};
-ghost use Rattle.rules.specs.Calls.{left, judging, packing, pressing};
+ghost use Rattle.rules.specs.Calls.{left, judging, packing, pressing, siding, improving, planning, flooring};
 ghost use Rattle.rules.specs.Better.{comparing};
 
 #[no_mangle]
@@ -49,4 +52,53 @@ pub extern "C" fn nesbrunka_better(
     ensures { λ r. ⌜ r ≡ comparing n (now (widths .entry)) (now (guards .entry)) (now (first .entry)) (now (second .entry)) ⌝ }
 {
     packing::compare(n, widths, guards, first, second)
+}
+
+#[no_mangle]
+pub extern "C" fn nesbrunka_two_sides(
+    n: usize,
+    widths: &[u16],
+    guards: &[u8],
+    order: &mut [u8],
+) -> Sided
+    ensures { λ r. ⌜ left r (now (order .exit)) ≡ siding n (now (widths .entry)) (now (guards .entry)) (now (order .entry)) ⌝ }
+{
+    planning::two_sides(n, widths, guards, order)
+}
+
+#[no_mangle]
+pub extern "C" fn nesbrunka_plan(
+    n: usize,
+    widths: &[u16],
+    guards: &[u8],
+    order: &mut [u8],
+    starts: &mut [u16],
+    seed: u32,
+    rounds: usize,
+) -> Planned
+    ensures { λ r. ⌜ left r (now (order .exit), now (starts .exit)) ≡ planning n (now (widths .entry)) (now (guards .entry)) (now (order .entry)) (now (starts .entry)) seed rounds ⌝ }
+{
+    planning::plan(n, widths, guards, order, starts, seed, rounds)
+}
+
+#[no_mangle]
+pub extern "C" fn nesbrunka_improve(
+    n: usize,
+    widths: &[u16],
+    guards: &[u8],
+    order: &mut [u8],
+    starts: &mut [u16],
+    seed: u32,
+    rounds: usize,
+) -> Planned
+    ensures { λ r. ⌜ left r (now (order .exit), now (starts .exit)) ≡ improving n (now (widths .entry)) (now (guards .entry)) (now (order .entry)) (now (starts .entry)) seed rounds ⌝ }
+{
+    planning::improve(n, widths, guards, order, starts, seed, rounds)
+}
+
+#[no_mangle]
+pub extern "C" fn nesbrunka_floor(n: usize, widths: &[u16], guards: &[u8], list: &[u8]) -> Floored
+    ensures { λ r. ⌜ r ≡ flooring n (now (widths .entry)) (now (guards .entry)) (now (list .entry)) ⌝ }
+{
+    planning::floor(n, widths, guards, list)
 }
