@@ -73,18 +73,37 @@ impl Case {
         calls::network(self.n, &self.widths, &self.guards).expect("a network without a fault")
     }
 
-    fn show(&self) -> String {
+    /// The part of the case that a call takes, in full.
+    fn show(&self, call: Call) -> String {
         let mut out = format!("  n {}, seed {}, rounds {}\n", self.n, self.seed, self.rounds);
-        let _ = writeln!(out, "  widths {}", runs(&self.widths));
-        let _ = writeln!(out, "  guards {}", runs(&self.guards));
-        let _ = writeln!(out, "  starts {}", runs(&self.starts));
-        let _ = writeln!(out, "  order {}", runs(&self.order));
-        let _ = writeln!(out, "  second {}", runs(&self.second));
-        let _ = writeln!(out, "  list {}", runs(&self.list));
-        let _ = writeln!(out, "  labels \"{}\"", self.labels.escape_ascii());
-        let _ = writeln!(out, "  text ({}) \"{}\"", self.text.len(), self.text.escape_ascii());
+        let tables: &[&str] = match call {
+            Call::Judge | Call::Press => &["widths", "guards", "starts"],
+            Call::Pack | Call::Plan | Call::Improve => &["widths", "guards", "order", "starts"],
+            Call::TwoSides => &["widths", "guards", "order"],
+            Call::Better => &["widths", "guards", "order", "second"],
+            Call::Floor => &["widths", "guards", "list"],
+            Call::Read | Call::Write => &["text", "labels", "widths", "guards", "starts"],
+            Call::Program => &["text"],
+        };
+        for name in tables {
+            let _ = match *name {
+                "widths" => writeln!(out, "  widths {}", runs(&self.widths)),
+                "guards" => writeln!(out, "  guards {}", runs(&self.guards)),
+                "starts" => writeln!(out, "  starts {}", runs(&self.starts)),
+                "order" => writeln!(out, "  order {}", runs(&self.order)),
+                "second" => writeln!(out, "  second {}", runs(&self.second)),
+                "list" => writeln!(out, "  list {}", runs(&self.list)),
+                "labels" => writeln!(out, "  labels {}", bytes(&self.labels)),
+                _ => writeln!(out, "  text {}", bytes(&self.text)),
+            };
+        }
         out
     }
+}
+
+/// Bytes that are mostly text: their number, and the bytes with the unprintable ones escaped.
+fn bytes(text: &[u8]) -> String {
+    format!("({}): \"{}\"", text.len(), text.escape_ascii())
 }
 
 /// A table in short: its length, and its cells with `value*times` for repeats.
@@ -152,7 +171,7 @@ impl<'a> Tally<'a> {
     /// Whether a call is compared; if every call is to be named first, names it.
     fn begin(&self, call: Call, case: &Case) -> bool {
         if self.chosen.trace && self.chooses(call) {
-            eprintln!("{}: {}\n{}", self.place, call.name(), case.show());
+            eprintln!("{}: {}\n{}", self.place, call.name(), case.show(call));
         }
         self.chooses(call)
     }
@@ -163,7 +182,7 @@ impl<'a> Tally<'a> {
         if got != want || !faults.is_empty() {
             let mut what = format!("{} answered {got:?}, expected {want:?}\n", call.name());
             faults.iter().for_each(|fault| what += &format!("  {fault}\n"));
-            self.differ(&what, &case.show());
+            self.differ(&what, &case.show(call));
         }
     }
 
@@ -171,7 +190,8 @@ impl<'a> Tally<'a> {
     pub fn check(&mut self, what: &str, case: &Case, holds: bool) {
         self.checks += 1;
         if !holds {
-            self.differ(&format!("does not hold: {what}\n"), &case.show());
+            let call = if case.text.is_empty() { Call::Pack } else { Call::Write };
+            self.differ(&format!("does not hold: {what}\n"), &case.show(call));
         }
     }
 
@@ -181,7 +201,7 @@ impl<'a> Tally<'a> {
         if got != want {
             let (got, want) = (got.escape_ascii(), want.escape_ascii());
             let what = format!("program ({how}) printed \"{got}\"\n  expected \"{want}\"\n");
-            self.differ(&what, &case.show());
+            self.differ(&what, &case.show(Call::Program));
         }
     }
 
@@ -352,7 +372,7 @@ fn settle_with(
     let mut faults = Vec::new();
     table(more.0, more.1, more.2, &mut faults);
     for fault in faults {
-        t.differ(&format!("{}: {fault}\n", call.name()), &c.show());
+        t.differ(&format!("{}: {fault}\n", call.name()), &c.show(call));
     }
     l.settle(t, call, c, got, want)
 }
