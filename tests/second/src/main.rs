@@ -33,7 +33,7 @@ second [--seed S] [--minutes M] [--only CALL,..] [--groups GROUP,..] [--threads 
   --minutes M   goes on with new seeds until so many minutes have passed
   --only        calls to compare: judge pack press two_sides plan improve better floor read
                 write program (default: all; one that is not in the archive is a failure)
-  --groups      groups to run: exhaustive sizes small large faults sheets program
+  --groups      groups to run: exhaustive sizes small large rounds faults sheets program
   --threads T   threads (default: as many as there are processors)
   --trace       names each call and its case before it is made (for a library that crashes)
 NESBRUNKA_LIB (when built) is the folder of libnesbrunka.a, NESBRUNKA_PLAN the plan program.";

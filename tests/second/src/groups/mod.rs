@@ -5,6 +5,7 @@ pub mod exhaustive;
 pub mod faults;
 pub mod large;
 pub mod program;
+pub mod rounds;
 pub mod sheets;
 pub mod small;
 
@@ -21,7 +22,7 @@ pub struct Group {
     pub piece: fn(&mut Tally, &mut Rng, usize),
 }
 
-pub const GROUPS: [Group; 7] = [
+pub const GROUPS: [Group; 8] = [
     Group {
         name: "exhaustive",
         counts: "networks",
@@ -49,6 +50,13 @@ pub const GROUPS: [Group; 7] = [
         pieces: large::PIECES,
         random: true,
         piece: large::piece,
+    },
+    Group {
+        name: "rounds",
+        counts: "networks",
+        pieces: rounds::PIECES,
+        random: true,
+        piece: rounds::piece,
     },
     Group {
         name: "faults",
