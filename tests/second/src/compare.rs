@@ -136,19 +136,32 @@ pub struct Tally<'a> {
     pub cases: u64,
     /// Comparisons of each call.
     pub calls: [u64; 11],
+    /// The numbers that each call had to answer, so that none goes untried.
+    pub numbers: [[u64; NUMBERS]; 11],
     /// Brute-force checks of what the library answered.
     pub checks: u64,
     pub different: u64,
     pub shown: Vec<String>,
 }
 
+/// Numbers 0 to 16.
+pub const NUMBERS: usize = 17;
+
 /// Differences printed in full.
 const SHOWN: usize = 5;
 
 impl<'a> Tally<'a> {
     pub fn new(chosen: &'a Chosen, place: String) -> Tally<'a> {
-        let shown = Vec::new();
-        Tally { chosen, place, cases: 0, calls: [0; 11], checks: 0, different: 0, shown }
+        Tally {
+            chosen,
+            place,
+            cases: 0,
+            calls: [0; 11],
+            numbers: [[0; NUMBERS]; 11],
+            checks: 0,
+            different: 0,
+            shown: Vec::new(),
+        }
     }
 
     pub fn compared(&self) -> u64 {
@@ -160,6 +173,8 @@ impl<'a> Tally<'a> {
         self.checks += other.checks;
         self.different += other.different;
         self.calls.iter_mut().zip(other.calls).for_each(|(to, from)| *to += from);
+        let numbers = self.numbers.iter_mut().flatten();
+        numbers.zip(other.numbers.iter().flatten()).for_each(|(to, from)| *to += from);
         self.shown.extend(other.shown);
         self.shown.truncate(SHOWN);
     }
@@ -179,6 +194,7 @@ impl<'a> Tally<'a> {
     /// One comparison is over; the faults are those of the tables.
     fn end(&mut self, call: Call, case: &Case, got: Answer, want: Answer, faults: &[String]) {
         self.calls[call as usize] += 1;
+        self.numbers[call as usize][want.number] += 1;
         if got != want || !faults.is_empty() {
             let mut what = format!("{} answered {got:?}, expected {want:?}\n", call.name());
             faults.iter().for_each(|fault| what += &format!("  {fault}\n"));
@@ -197,7 +213,10 @@ impl<'a> Tally<'a> {
 
     /// The plan program's output against its expected output.
     pub fn program(&mut self, how: &str, case: &Case, got: &[u8], want: &[u8]) {
+        let refused = want.strip_prefix(b"refused ").map(|rest| &rest[..2.min(rest.len())]);
+        let number = refused.and_then(|digits| String::from_utf8_lossy(digits).trim().parse().ok());
         self.calls[Call::Program as usize] += 1;
+        self.numbers[Call::Program as usize][number.unwrap_or(0)] += 1;
         if got != want {
             let (got, want) = (got.escape_ascii(), want.escape_ascii());
             let what = format!("program ({how}) printed \"{got}\"\n  expected \"{want}\"\n");

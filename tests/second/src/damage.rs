@@ -120,7 +120,7 @@ const NUMBERS: [&str; 44] = [
 ];
 
 /// The number of kinds of damage.
-pub const DAMAGES: usize = 52;
+pub const DAMAGES: usize = 58;
 
 /// One damage of a kind at a line of a kind.
 pub fn damage(rng: &mut Rng, d: &mut Draft, what: usize, kind: Kind) {
@@ -129,7 +129,21 @@ pub fn damage(rng: &mut Rng, d: &mut Draft, what: usize, kind: Kind) {
         0..=17 => damage_bytes(rng, &mut d.lines[at].1, what),
         18..=33 => damage_fields(rng, d, at, what),
         34..=45 => damage_lines(rng, d, at, what),
-        _ => damage_end(rng, d, at, what),
+        46..=51 => damage_end(rng, d, at, what),
+        52..=54 => out_of_range(rng, d, at),
+        // Two faults in one line: which of them wins?
+        55 => {
+            out_of_range(rng, d, at);
+            damage_fields(rng, d, at, 25);
+        }
+        56 => {
+            out_of_range(rng, d, at);
+            damage_fields(rng, d, at, 26);
+        }
+        _ => {
+            out_of_range(rng, d, at);
+            damage_fields(rng, d, at, 28);
+        }
     }
 }
 
@@ -197,6 +211,19 @@ fn damage_fields(rng: &mut Rng, d: &mut Draft, at: usize, what: usize) {
         _ => {}
     }
     d.lines[at].1 = line;
+}
+
+/// A number of right form that the line may not have.
+fn out_of_range(rng: &mut Rng, d: &mut Draft, at: usize) {
+    let value = match d.lines[at].0 {
+        Kind::Paths => rng.pick(&[0, 129, 256, 257, 65_537, 99_999]),
+        Kind::Path => rng.pick(&[0, 65, 256, 257, 65_536, 65_537, 99_999]),
+        Kind::Guards => rng.pick(&[2_001, 9_999, 65_536, 99_999]),
+        Kind::Guard => rng.pick(&[33, 254, 255, 256, 257, 288, 65_536, 99_999]),
+        Kind::Starts => rng.pick(&[0, 129, 257, 65_537, 99_999]),
+        Kind::Start => rng.pick(&[0, 16_385, 65_535, 65_536, 65_537, 81_920, 99_999]),
+    };
+    change_number(&mut d.lines[at].1, |f| *f = value.to_string().into_bytes());
 }
 
 /// A number one higher or one lower.

@@ -168,12 +168,15 @@ fn report(total: &Tally, time: Duration) {
     for shown in &total.shown {
         println!("DIFFERENT {shown}");
     }
-    let counts: Vec<String> = CALLS
-        .iter()
-        .filter(|call| total.calls[call.0 as usize] > 0)
-        .map(|call| format!("{} {}", call.1, total.calls[call.0 as usize]))
-        .collect();
-    println!("calls: {}; brute-force checks {}", counts.join(", "), total.checks);
+    for (call, name, _) in CALLS {
+        let count = total.calls[call as usize];
+        let seen = total.numbers[call as usize].iter().enumerate().filter(|(_, times)| **times > 0);
+        let seen: Vec<String> = seen.map(|(number, times)| format!("{number} x {times}")).collect();
+        if count > 0 {
+            println!("{name}: {count} compared; answers {}", seen.join(", "));
+        }
+    }
+    println!("brute-force checks: {}", total.checks);
     println!("{:.0} s", time.as_secs_f64());
     println!("{} compared, {} different", total.compared(), total.different);
 }

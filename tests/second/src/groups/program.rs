@@ -10,8 +10,9 @@ use crate::sheet;
 use std::io::{Read, Write};
 use std::process::{Command, Stdio};
 use std::thread;
+use std::time::Duration;
 
-pub const PIECES: usize = 100;
+pub const PIECES: usize = 60;
 const EACH: usize = 10;
 
 /// The program, if the variable names one.
@@ -92,13 +93,14 @@ fn run(program: &str, text: &[u8], step: usize) -> Vec<u8> {
     let mut printed = Vec::new();
     thread::scope(|scope| {
         scope.spawn(move || {
-            for part in text.chunks(step.min(text.len().max(1))) {
+            for (number, part) in text.chunks(step.min(text.len().max(1))).enumerate() {
                 // A program that has refused may have closed its input.
                 if input.write_all(part).is_err() {
                     break;
                 }
-                if step < 100 {
-                    thread::yield_now();
+                // Time for the program to take the first pieces one by one.
+                if number < 3 && step < 100 {
+                    thread::sleep(Duration::from_millis(2));
                 }
             }
         });
