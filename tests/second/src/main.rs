@@ -96,9 +96,6 @@ fn group(name: &str) -> Result<&'static Group, String> {
 fn run(o: &Options) -> ExitCode {
     let missing: Vec<&str> =
         o.chosen.calls.iter().filter(|call| !call.linked()).map(|call| call.name()).collect();
-    if !missing.is_empty() {
-        println!("not in the archive, so not compared: {}", missing.join(" "));
-    }
     if program::named().is_none() && o.chosen.calls.contains(&Call::Program) {
         println!("NESBRUNKA_PLAN is not set: the plan program is skipped");
     }
@@ -116,7 +113,7 @@ fn run(o: &Options) -> ExitCode {
             break;
         }
     }
-    report(&total, begin.elapsed());
+    report(&total, begin.elapsed(), &missing);
     // A call that was to be compared and is not there is a failure: silence is no proof.
     ExitCode::from(u8::from(total.different > 0 || !missing.is_empty()))
 }
@@ -164,7 +161,7 @@ fn run_group<'a>(o: &'a Options, group: &Group, seed: u64, total: &mut Tally<'a>
     total.add(sum);
 }
 
-fn report(total: &Tally, time: Duration) {
+fn report(total: &Tally, time: Duration, missing: &[&str]) {
     for shown in &total.shown {
         println!("DIFFERENT {shown}");
     }
@@ -178,5 +175,9 @@ fn report(total: &Tally, time: Duration) {
     }
     println!("brute-force checks: {}", total.checks);
     println!("{:.0} s", time.as_secs_f64());
-    println!("{} compared, {} different", total.compared(), total.different);
+    let last = format!("{} compared, {} different", total.compared(), total.different);
+    match missing {
+        [] => println!("{last}"),
+        _ => println!("{last}, not in the archive: {}", missing.join(" ")),
+    }
 }

@@ -8,7 +8,7 @@ use crate::net::*;
 
 pub const PIECES: usize = 500;
 const VALID: usize = 8;
-const DAMAGED: usize = 54;
+const DAMAGED: usize = 100;
 
 pub fn piece(t: &mut Tally, rng: &mut Rng, number: usize) {
     for k in 0..VALID {
