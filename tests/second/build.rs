@@ -8,9 +8,8 @@ use std::env;
 use std::fs;
 use std::path::{Path, PathBuf};
 
-const CALLS: [&str; 10] = [
-    "judge", "pack", "press", "two_sides", "plan", "improve", "better", "floor", "read", "write",
-];
+const CALLS: [&str; 10] =
+    ["judge", "pack", "press", "two_sides", "plan", "improve", "better", "floor", "read", "write"];
 
 fn main() {
     println!("cargo::rerun-if-changed=build.rs");

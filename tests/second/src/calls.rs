@@ -50,7 +50,7 @@ pub fn sizes(lent_and_fixed: &[(usize, usize)]) -> Result<(), Refusal> {
 
 /// The tests 1, 3, 4 and 5; 2 has been made.
 pub fn network(n: usize, widths: &[u16], guards: &[u8]) -> Result<Network, Refusal> {
-    if n < 1 || n > PATHS {
+    if !(1..=PATHS).contains(&n) {
         return refuse(1, 0);
     }
     refuse_at(3, (0..n).find(|&i| !(1..=MAX_WIDTH).contains(&usize::from(widths[i]))))?;

@@ -406,9 +406,8 @@ pub fn read(t: &mut Tally, c: &Case) -> Option<(Answer, Case)> {
     let mut starts = Lent::new(&c.starts);
     let got = ffi::read(&mut text, &mut labels, &mut widths, &mut guards, &mut starts)?;
     let mut own = c.clone();
-    let want = sheet::read(
-        &c.text, &mut own.labels, &mut own.widths, &mut own.guards, &mut own.starts,
-    );
+    let want =
+        sheet::read(&c.text, &mut own.labels, &mut own.widths, &mut own.guards, &mut own.starts);
     let mut faults = Vec::new();
     table("text", &text, &c.text, &mut faults);
     table("labels", &labels, &own.labels, &mut faults);

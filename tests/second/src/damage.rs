@@ -59,7 +59,11 @@ impl Draft {
     fn find(&self, rng: &mut Rng, kind: Kind) -> usize {
         let of_kind: Vec<usize> =
             (0..self.lines.len()).filter(|&k| self.lines[k].0 == kind).collect();
-        if of_kind.is_empty() { rng.below(self.lines.len()) } else { rng.pick(&of_kind) }
+        if of_kind.is_empty() {
+            rng.below(self.lines.len())
+        } else {
+            rng.pick(&of_kind)
+        }
     }
 
     /// A label of one of the path lines, as it stands.
@@ -112,6 +116,7 @@ fn change_number(line: &mut Vec<u8>, change: impl FnOnce(&mut Vec<u8>)) {
 
 const BYTES: &[u8] = b" \n\r\t\0-0159AZaz_.+,:/@[`{\x0B\x0C\x1F\x7F\x80\xA0\xEF\xFF";
 
+#[rustfmt::skip]
 const NUMBERS: [&str; 44] = [
     "0", "1", "2", "3", "31", "32", "33", "63", "64", "65", "127", "128", "129", "254", "255",
     "256", "257", "288", "320", "1999", "2000", "2001", "9999", "10000", "16383", "16384", "16385",

@@ -248,7 +248,7 @@ pub fn judge(n: usize, widths: &mut Lent<u16>, guards: &mut Lent<u8>, starts: &m
                 starts.pointer(), starts.len(),
             )
         };
-        return Some(Answer::from(got));
+        Some(Answer::from(got))
     }
     #[cfg(not(has_judge))]
     None
@@ -267,7 +267,7 @@ pub fn pack(
                 order.pointer(), order.len(), starts.pointer(), starts.len(),
             )
         };
-        return Some(Answer::from(got));
+        Some(Answer::from(got))
     }
     #[cfg(not(has_pack))]
     None
@@ -283,7 +283,7 @@ pub fn press(n: usize, widths: &mut Lent<u16>, guards: &mut Lent<u8>, starts: &m
                 starts.pointer(), starts.len(),
             )
         };
-        return Some(Answer::from(got));
+        Some(Answer::from(got))
     }
     #[cfg(not(has_press))]
     None
@@ -299,7 +299,7 @@ pub fn two_sides(n: usize, widths: &mut Lent<u16>, guards: &mut Lent<u8>, order:
                 order.pointer(), order.len(),
             )
         };
-        return Some(Answer::from(got));
+        Some(Answer::from(got))
     }
     #[cfg(not(has_two_sides))]
     None
@@ -318,7 +318,7 @@ pub fn plan(
                 order.pointer(), order.len(), starts.pointer(), starts.len(), seed, rounds,
             )
         };
-        return Some(Answer::from(got));
+        Some(Answer::from(got))
     }
     #[cfg(not(has_plan))]
     None
@@ -337,7 +337,7 @@ pub fn improve(
                 order.pointer(), order.len(), starts.pointer(), starts.len(), seed, rounds,
             )
         };
-        return Some(Answer::from(got));
+        Some(Answer::from(got))
     }
     #[cfg(not(has_improve))]
     None
@@ -356,7 +356,7 @@ pub fn better(
                 first.pointer(), first.len(), second.pointer(), second.len(),
             )
         };
-        return Some(Answer { number: got, place: 0, more: [0, 0] });
+        Some(Answer { number: got, place: 0, more: [0, 0] })
     }
     #[cfg(not(has_better))]
     None
@@ -372,7 +372,7 @@ pub fn floor(n: usize, widths: &mut Lent<u16>, guards: &mut Lent<u8>, list: &mut
                 list.pointer(), list.len(),
             )
         };
-        return Some(Answer::from(got));
+        Some(Answer::from(got))
     }
     #[cfg(not(has_floor))]
     None
@@ -392,7 +392,7 @@ pub fn read(
                 starts.pointer(), starts.len(),
             )
         };
-        return Some(Answer::from(got));
+        Some(Answer::from(got))
     }
     #[cfg(not(has_read))]
     None
@@ -412,7 +412,7 @@ pub fn write(
                 text.pointer(), text.len(),
             )
         };
-        return Some(Answer::from(got));
+        Some(Answer::from(got))
     }
     #[cfg(not(has_write))]
     None

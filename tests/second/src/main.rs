@@ -9,6 +9,8 @@ mod brute;
 mod calls;
 mod compare;
 mod damage;
+// A pointer and its length stay on one line.
+#[rustfmt::skip]
 mod ffi;
 #[cfg(test)]
 mod figures;

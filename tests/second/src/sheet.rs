@@ -27,7 +27,11 @@ impl<'a> Lines<'a> {
         };
         let fields: Vec<&[u8]> = self.rest[..length].split(|&b| b == b' ').collect();
         self.rest = &self.rest[length + 1..];
-        if fields.len() == count { Ok(fields) } else { self.wrong(11) }
+        if fields.len() == count {
+            Ok(fields)
+        } else {
+            self.wrong(11)
+        }
     }
 
     /// A count line: the section's word and a number.
@@ -49,7 +53,11 @@ impl<'a> Lines<'a> {
     }
 
     fn label_in(&self, field: &[u8]) -> Result<Vec<u8>, Refusal> {
-        if is_label(field) { Ok(field.to_vec()) } else { self.wrong(11) }
+        if is_label(field) {
+            Ok(field.to_vec())
+        } else {
+            self.wrong(11)
+        }
     }
 
     /// A refusal at the line read last.

@@ -69,8 +69,22 @@ fn put<T>(table: &mut [T], at: usize, value: T) {
 
 fn wrong_n(rng: &mut Rng) -> usize {
     let low = rng.range(130, 400);
-    rng.pick(&[0, 129, 130, 255, 256, 257, low, 16_384, 65_537, 1 << 32, (1 << 32) + 3, 1 << 63,
-        usize::MAX - 1, usize::MAX])
+    rng.pick(&[
+        0,
+        129,
+        130,
+        255,
+        256,
+        257,
+        low,
+        16_384,
+        65_537,
+        1 << 32,
+        (1 << 32) + 3,
+        1 << 63,
+        usize::MAX - 1,
+        usize::MAX,
+    ])
 }
 
 /// Another length for one table: empty, one less, one more, n, double, or any.

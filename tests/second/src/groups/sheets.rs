@@ -71,7 +71,9 @@ fn round_trip(t: &mut Tally, rng: &mut Rng, c: &Case, text: Vec<u8>) {
     let Some((answer, back)) = compare::read(t, &case) else { return };
     t.check("a valid sheet is read", &case, answer.number == 0 && answer.more[0] == c.n);
     let room = vec![b'%'; case.text.len() + rng.below(9)];
-    let Some((one, first)) = compare::write(t, &Case { text: room.clone(), ..back }) else { return };
+    let Some((one, first)) = compare::write(t, &Case { text: room.clone(), ..back }) else {
+        return;
+    };
     t.check("a sheet is as long as it was", &case, one.more[0] == case.text.len());
     let again = Case { text: first[..one.more[0].min(first.len())].to_vec(), ..case.clone() };
     let Some((_, back)) = compare::read(t, &again) else { return };

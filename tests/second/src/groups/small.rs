@@ -31,7 +31,11 @@ pub fn piece(t: &mut Tally, rng: &mut Rng, _: usize) {
 }
 
 fn shape(rng: &mut Rng) -> Shape {
-    if rng.percent(50) { rng.pick(&SHAPES) } else { Shape::Density(rng.range(10, 100)) }
+    if rng.percent(50) {
+        rng.pick(&SHAPES)
+    } else {
+        Shape::Density(rng.range(10, 100))
+    }
 }
 
 /// The best of all orders is the best of all plans: some plan keeps within so many slots, and
@@ -124,8 +128,11 @@ fn planning(t: &mut Tally, c: &Case, net: &Network, best: usize) {
         sound(t, "a plan is valid", c, net, &got);
         let reached = got.answer.more[0];
         t.check("planning is not below the best", c, reached >= best);
-        t.check("with two sides the plan is best, none kept", c,
-            !sides || (reached == best && got.answer.more[1] == 0));
+        t.check(
+            "with two sides the plan is best, none kept",
+            c,
+            !sides || (reached == best && got.answer.more[1] == 0),
+        );
     }
     if let Some(got) = compare::plan(t, &Case { rounds: 0, ..c.clone() }) {
         let greedy = brute::greedy_by_definition(net, &got.paths(c.n));
