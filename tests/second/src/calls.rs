@@ -1,0 +1,245 @@
+//! The table calls: their refusals in document 01's order, and what they leave in the tables.
+//!
+//! "Order for table calls: 2, 1, 3, 4, 5, then 6, 7, 8, 10, 15, 9 where they apply; each scan
+//! goes from the lowest index, by i then j." "A refusal leaves every lent table unchanged."
+
+use crate::net::*;
+use crate::rules;
+
+/// What a call answers: its number, its place, and its other numbers (0 where it has none).
+#[derive(Clone, Copy, Debug, PartialEq, Eq)]
+pub struct Answer {
+    pub number: usize,
+    pub place: usize,
+    pub more: [usize; 2],
+}
+
+impl Answer {
+    /// "0 | done | 0"
+    pub fn done(first: usize, second: usize) -> Answer {
+        Answer { number: 0, place: 0, more: [first, second] }
+    }
+
+    /// "Other numbers in a refused answer are 0."
+    pub fn of(result: Result<Answer, Refusal>) -> Answer {
+        result.unwrap_or_else(|r| Answer { number: r.number, place: r.place, more: [0, 0] })
+    }
+}
+
+/// A refusal: one row of "Numbers returned".
+#[derive(Clone, Copy, Debug, PartialEq, Eq)]
+pub struct Refusal {
+    pub number: usize,
+    pub place: usize,
+}
+
+pub fn refuse<T>(number: usize, place: usize) -> Result<T, Refusal> {
+    Err(Refusal { number, place })
+}
+
+/// Refuses at the first place, if there is one.
+pub fn refuse_at(number: usize, place: Option<usize>) -> Result<(), Refusal> {
+    place.map_or(Ok(()), |p| refuse(number, p))
+}
+
+/// "2 | a lent table is not of its size | 0"
+pub fn sizes(lent_and_fixed: &[(usize, usize)]) -> Result<(), Refusal> {
+    let wrong = lent_and_fixed.iter().any(|(lent, fixed)| lent != fixed);
+    refuse_at(2, wrong.then_some(0))
+}
+
+/// The tests 1, 3, 4 and 5; 2 has been made.
+pub fn network(n: usize, widths: &[u16], guards: &[u8]) -> Result<Network, Refusal> {
+    if !(1..=PATHS).contains(&n) {
+        return refuse(1, 0);
+    }
+    refuse_at(3, (0..n).find(|&i| !(1..=MAX_WIDTH).contains(&usize::from(widths[i]))))?;
+    refuse_at(4, first_cell(n, |i, j| bad_cell(i, j, guards[cell(i, j)])))?;
+    refuse_at(5, first_cell(n, |i, j| i < j && guards[cell(i, j)] != guards[cell(j, i)]))?;
+    Ok(Network::from_tables(n, widths, guards))
+}
+
+/// "guard cell not 0 to 32 or 255, diagonal not 255"
+fn bad_cell(i: usize, j: usize, value: u8) -> bool {
+    if i == j {
+        value != NONE
+    } else {
+        usize::from(value) > MAX_GUARD && value != NONE
+    }
+}
+
+/// The first cell of the square, by i then j, of which something is so.
+fn first_cell(n: usize, so: impl Fn(usize, usize) -> bool) -> Option<usize> {
+    for i in 0..n {
+        for j in 0..n {
+            if so(i, j) {
+                return Some(cell(i, j));
+            }
+        }
+    }
+    None
+}
+
+/// "6 | order entry n or more, or seen earlier | position"
+fn order_of(n: usize, order: &[u8]) -> Result<Vec<usize>, Refusal> {
+    let bad = |p: usize| usize::from(order[p]) >= n || order[..p].contains(&order[p]);
+    refuse_at(6, (0..n).find(|&p| bad(p)))?;
+    Ok(order[..n].iter().map(|&path| usize::from(path)).collect())
+}
+
+/// "7 | start not 1 to 16,384 | path"
+pub fn starts_of(n: usize, starts: &[u16]) -> Result<Vec<usize>, Refusal> {
+    let starts: Vec<usize> = starts[..n].iter().map(|&s| usize::from(s)).collect();
+    refuse_at(7, starts.iter().position(|s| !(1..=MAX_START).contains(s)))?;
+    Ok(starts)
+}
+
+/// "8 | first conflicting pair, i<j, too close | cell"
+fn valid(net: &Network, starts: &[usize]) -> Result<(), Refusal> {
+    refuse_at(8, rules::first_clash(net, starts).map(|(i, j)| cell(i, j)))
+}
+
+/// "10 | rounds over 10,000 | 0"
+fn rounds_allowed(rounds: usize) -> Result<(), Refusal> {
+    refuse_at(10, (rounds > MAX_ROUNDS).then_some(0))
+}
+
+/// "15 | floor list empty, over 8, or entry out of range, repeated or not in conflict with an
+/// earlier one | position, or 0 for length"
+fn list_of(net: &Network, list: &[u8]) -> Result<Vec<usize>, Refusal> {
+    if list.is_empty() || list.len() > MAX_LIST {
+        return refuse(15, 0);
+    }
+    let paths: Vec<usize> = list.iter().map(|&path| usize::from(path)).collect();
+    for (position, &path) in paths.iter().enumerate() {
+        let apart = |&e: &usize| e == path || net.guard(e, path).is_none();
+        if path >= net.paths() || paths[..position].iter().any(apart) {
+            return refuse(15, position);
+        }
+    }
+    Ok(paths)
+}
+
+fn put_starts(starts: &[usize], table: &mut [u16]) {
+    for (place, &start) in table.iter_mut().zip(starts) {
+        *place = u16::try_from(start).expect("a packed start is at most 12,256");
+    }
+}
+
+fn put_order(order: &[usize], table: &mut [u8]) {
+    for (place, &path) in table.iter_mut().zip(order) {
+        *place = u8::try_from(path).expect("a path is at most 127");
+    }
+}
+
+/// "judging, the number and place alone"
+pub fn judge(n: usize, widths: &[u16], guards: &[u8], starts: &[u16]) -> Answer {
+    let run = || {
+        sizes(&[(widths.len(), PATHS), (guards.len(), CELLS), (starts.len(), PATHS)])?;
+        let net = network(n, widths, guards)?;
+        valid(&net, &starts_of(n, starts)?)?;
+        Ok(Answer::done(0, 0))
+    };
+    Answer::of(run())
+}
+
+/// "Packing and pressing answer the starts and the highest slot"
+pub fn pack(n: usize, widths: &[u16], guards: &[u8], order: &[u8], starts: &mut [u16]) -> Answer {
+    let mut run = || {
+        sizes(&[(widths.len(), PATHS), (guards.len(), CELLS)])?;
+        sizes(&[(order.len(), PATHS), (starts.len(), PATHS)])?;
+        let net = network(n, widths, guards)?;
+        let packed = rules::pack(&net, &order_of(n, order)?);
+        put_starts(&packed, starts);
+        Ok(Answer::done(rules::highest(&net, &packed), 0))
+    };
+    Answer::of(run())
+}
+
+pub fn press(n: usize, widths: &[u16], guards: &[u8], starts: &mut [u16]) -> Answer {
+    let mut run = || {
+        sizes(&[(widths.len(), PATHS), (guards.len(), CELLS), (starts.len(), PATHS)])?;
+        let net = network(n, widths, guards)?;
+        let lent = starts_of(n, starts)?;
+        valid(&net, &lent)?;
+        let pressed = rules::press(&net, &lent);
+        put_starts(&pressed, starts);
+        Ok(Answer::done(rules::highest(&net, &pressed), 0))
+    };
+    Answer::of(run())
+}
+
+/// "The two-sided call answers this order and the size of the low side."
+pub fn two_sides(n: usize, widths: &[u16], guards: &[u8], order: &mut [u8]) -> Answer {
+    let mut run = || {
+        sizes(&[(widths.len(), PATHS), (guards.len(), CELLS), (order.len(), PATHS)])?;
+        let net = network(n, widths, guards)?;
+        match rules::two_sided_order(&net) {
+            None => refuse(9, 0),
+            Some((found, low)) => {
+                put_order(&found, order);
+                Ok(Answer::done(low, 0))
+            }
+        }
+    };
+    Answer::of(run())
+}
+
+fn put_improved(found: &rules::Improved, order: &mut [u8], starts: &mut [u16]) -> Answer {
+    put_order(&found.order, order);
+    put_starts(&found.starts, starts);
+    Answer::done(found.highest, found.kept)
+}
+
+/// "It answers as improving does, with 0 kept where no rounds run."
+pub fn plan(
+    n: usize, widths: &[u16], guards: &[u8], order: &mut [u8], starts: &mut [u16], seed: u32,
+    rounds: usize,
+) -> Answer {
+    let mut run = || {
+        sizes(&[(widths.len(), PATHS), (guards.len(), CELLS)])?;
+        sizes(&[(order.len(), PATHS), (starts.len(), PATHS)])?;
+        let net = network(n, widths, guards)?;
+        rounds_allowed(rounds)?;
+        Ok(put_improved(&rules::plan(&net, seed, rounds), order, starts))
+    };
+    Answer::of(run())
+}
+
+/// "It answers the order, its starts, its highest slot and the number of swaps kept."
+pub fn improve(
+    n: usize, widths: &[u16], guards: &[u8], order: &mut [u8], starts: &mut [u16], seed: u32,
+    rounds: usize,
+) -> Answer {
+    let mut run = || {
+        sizes(&[(widths.len(), PATHS), (guards.len(), CELLS)])?;
+        sizes(&[(order.len(), PATHS), (starts.len(), PATHS)])?;
+        let net = network(n, widths, guards)?;
+        let lent = order_of(n, order)?;
+        rounds_allowed(rounds)?;
+        Ok(put_improved(&rules::improve(&net, &lent, seed, rounds), order, starts))
+    };
+    Answer::of(run())
+}
+
+/// "the one with the lower highest slot .. on equality, of the first. The part is empty exactly
+/// when a packing of either would be refused": 0 neither, 1 the first, 2 the second.
+pub fn better(n: usize, widths: &[u16], guards: &[u8], first: &[u8], second: &[u8]) -> usize {
+    let mut room = vec![0; PATHS];
+    let one = pack(n, widths, guards, first, &mut room);
+    let two = pack(n, widths, guards, second, &mut room);
+    match (one.number, two.number) {
+        (0, 0) if two.more[0] < one.more[0] => 2,
+        (0, 0) => 1,
+        _ => 0,
+    }
+}
+
+pub fn floor(n: usize, widths: &[u16], guards: &[u8], list: &[u8]) -> Answer {
+    let run = || {
+        sizes(&[(widths.len(), PATHS), (guards.len(), CELLS)])?;
+        let net = network(n, widths, guards)?;
+        Ok(Answer::done(rules::floor(&net, &list_of(&net, list)?), 0))
+    };
+    Answer::of(run())
+}

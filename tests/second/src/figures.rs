@@ -1,0 +1,260 @@
+//! Self-checks that need no library: document 01's figures and outside vectors, on this
+//! program's own implementation.
+
+use crate::brute;
+use crate::calls::{self, Answer};
+use crate::net::*;
+use crate::rules;
+use crate::sheet;
+
+/// "T: widths 2, 4, 3; guards 0-1 is 1, 1-2 is 2, 0-2 is 0."
+fn t() -> Network {
+    Network::of(&[2, 4, 3], &[(0, 1, 1), (1, 2, 2), (0, 2, 0)])
+}
+
+/// The tables of a network, cells past n zero.
+fn tables(widths: &[u16], conflicts: &[(usize, usize, u8)]) -> (Vec<u16>, Vec<u8>) {
+    let mut table = widths.to_vec();
+    table.resize(PATHS, 0);
+    let mut guards = vec![NONE; CELLS];
+    for &(i, j, guard) in conflicts {
+        guards[cell(i, j)] = guard;
+        guards[cell(j, i)] = guard;
+    }
+    (table, guards)
+}
+
+fn t_tables() -> (Vec<u16>, Vec<u8>) {
+    tables(&[2, 4, 3], &[(0, 1, 1), (1, 2, 2), (0, 2, 0)])
+}
+
+fn long<T: Copy + Default>(first: &[T]) -> Vec<T> {
+    let mut table = first.to_vec();
+    table.resize(PATHS, T::default());
+    table
+}
+
+fn refused(number: usize, place: usize) -> Answer {
+    Answer { number, place, more: [0, 0] }
+}
+
+fn packs(order: [usize; 3], starts: [usize; 3], highest: usize) {
+    assert_eq!(rules::pack(&t(), &order), starts);
+    assert_eq!(rules::highest(&t(), &starts), highest);
+}
+
+#[test]
+fn p1_to_p4_packing_and_greedy() {
+    packs([0, 1, 2], [1, 4, 10], 12);
+    packs([2, 1, 0], [11, 6, 1], 12);
+    packs([1, 0, 2], [6, 1, 8], 10);
+    assert_eq!(rules::greedy_order(&t()), [0, 2, 1]);
+    packs([0, 2, 1], [1, 8, 3], 11);
+}
+
+#[test]
+fn p5_pressing() {
+    let (widths, guards) = t_tables();
+    let mut starts = long(&[20, 10, 30]);
+    assert_eq!(calls::press(3, &widths, &guards, &mut starts), Answer::done(10, 0));
+    assert_eq!(starts, long(&[6, 1, 8]));
+}
+
+#[test]
+fn p6_no_two_sides() {
+    let (widths, guards) = t_tables();
+    let mut order = long(&[9, 9, 9]);
+    assert_eq!(calls::two_sides(3, &widths, &guards, &mut order), refused(9, 0));
+    assert_eq!(order, long(&[9, 9, 9]));
+}
+
+#[test]
+fn p7_improving() {
+    assert_eq!(rules::next_state(1), 1_015_568_748);
+    assert_eq!(rules::next_state(1_015_568_748), 1_586_005_467);
+    assert_eq!(rules::place_of(1_015_568_748, 3), 0);
+    assert_eq!(rules::place_of(1_586_005_467, 3), 1);
+    let (widths, guards) = t_tables();
+    let (mut order, mut starts) = (long(&[0, 2, 1]), long(&[]));
+    let got = calls::improve(3, &widths, &guards, &mut order, &mut starts, 1, 1);
+    assert_eq!((got, order), (Answer::done(10, 1), long(&[2, 0, 1])));
+}
+
+#[test]
+fn p8_judging() {
+    let (widths, guards) = tables(&[2, 2], &[(0, 1, 1)]);
+    assert_eq!(calls::judge(2, &widths, &guards, &long(&[1, 4])), Answer::done(0, 0));
+    assert_eq!(calls::judge(2, &widths, &guards, &long(&[1, 3])), refused(8, 1));
+}
+
+#[test]
+fn p9_draws() {
+    assert_eq!(rules::next_state(0), 0x3C6E_F35F);
+    assert_eq!(rules::next_state(0x3C6E_F35F), 0x4750_2932);
+    assert_eq!(rules::place_of(0x3C6E_F35F, 4), 0);
+    assert_eq!(rules::place_of(0x4750_2932, 4), 1);
+}
+
+#[test]
+fn p10_floor() {
+    let (widths, guards) = t_tables();
+    assert_eq!(calls::floor(3, &widths, &guards, &[0, 1, 2]), Answer::done(9, 0));
+}
+
+/// "one path of 64, highest 64; two of 64, guard 32, highest 160"
+#[test]
+fn run_widest() {
+    let (widths, guards) = tables(&[64], &[]);
+    let mut starts = long(&[]);
+    let got = calls::pack(1, &widths, &guards, &long(&[0]), &mut starts);
+    assert_eq!(got, Answer::done(64, 0));
+    let (widths, guards) = tables(&[64, 64], &[(0, 1, 32)]);
+    let got = calls::pack(2, &widths, &guards, &long(&[0, 1]), &mut starts);
+    assert_eq!(got, Answer::done(160, 0));
+}
+
+/// "n 0 and 129 refused 1; widths 0 and 65, guard 33, start 16,385, rounds 10,001"
+#[test]
+fn run_limits() {
+    let (widths, guards) = t_tables();
+    let judge = |n: usize, w: &[u16], g: &[u8], s: &[u16]| calls::judge(n, w, g, s);
+    let starts = long(&[20, 10, 30]);
+    assert_eq!(judge(0, &widths, &guards, &starts), refused(1, 0));
+    assert_eq!(judge(129, &widths, &guards, &starts), refused(1, 0));
+    assert_eq!(judge(129, &widths[1..], &guards, &starts), refused(2, 0));
+    assert_eq!(judge(3, &long(&[2, 0, 3]), &guards, &starts), refused(3, 1));
+    assert_eq!(judge(3, &long(&[2, 4, 65]), &guards, &starts), refused(3, 2));
+    let (_, high) = tables(&[2, 4, 3], &[(1, 2, 33)]);
+    assert_eq!(judge(3, &widths, &high, &starts), refused(4, 130));
+    let mut uneven = guards.clone();
+    uneven[cell(2, 0)] = 5;
+    assert_eq!(judge(3, &widths, &uneven, &starts), refused(5, 2));
+    assert_eq!(judge(3, &widths, &guards, &long(&[20, 16_385, 30])), refused(7, 1));
+    let (mut order, mut room) = (long(&[0, 2, 1]), long(&[]));
+    let got = calls::plan(3, &widths, &guards, &mut order, &mut room, 1, 10_001);
+    assert_eq!(got, refused(10, 0));
+    assert_eq!(calls::plan(3, &widths, &guards, &mut order, &mut room, 1, 10_000).number, 0);
+}
+
+fn read(text: &str) -> Answer {
+    let (mut labels, mut guards) = (vec![1; LABELS], vec![1; CELLS]);
+    sheet::read(text.as_bytes(), &mut labels, &mut long(&[1]), &mut guards, &mut long(&[1]))
+}
+
+/// "empty text refused 11, line 1; `paths 0` refused 1, line 1; label 0417 beside 417 accepted"
+#[test]
+fn run_sheets() {
+    assert_eq!(read(""), refused(11, 1));
+    assert_eq!(read("paths 0\n"), refused(1, 1));
+    assert_eq!(read("paths 0"), refused(11, 1));
+    assert_eq!(read("paths 129\n"), refused(1, 1));
+    assert_eq!(read("paths 100000\n"), refused(11, 1));
+    assert_eq!(read("paths 2\n0417 2\n417 4\nguards 0\n"), Answer::done(2, 0));
+    assert_eq!(read("paths 2\nA 2\nA 0\nguards 0\n"), refused(12, 3));
+    assert_eq!(read("paths 2\nA 2\nB 0\nguards 0\n"), refused(3, 3));
+    assert_eq!(read("paths 2\nA 2\nB 65537\nguards 0\n"), refused(3, 3));
+    assert_eq!(read("paths 2\nA 2\nB 1\nguards 1\nA B 255\n"), refused(4, 5));
+    assert_eq!(read("paths 2\nA 2\nB 1\nguards 1\nB B 255\n"), refused(13, 5));
+    assert_eq!(read("paths 2\nA 2\nB 1\nguards 2\nA B 1\nB A 255\n"), refused(14, 6));
+    assert_eq!(read("paths 1\nA 2\nguards 2001\n"), refused(1, 3));
+    assert_eq!(read("paths 1\nA 2\nguards 0\nstarts 2\n"), refused(1, 4));
+    assert_eq!(read("paths 1\nA 2\nguards 0\nstarts 1\nA 0\n"), refused(7, 5));
+    assert_eq!(read("paths 1\nA 2\nguards 0\nstarts 1\nB 0\n"), refused(13, 5));
+    assert_eq!(read("paths 1\nA 2\nguards 0\nstarts 1\nA 1\n\n"), refused(11, 6));
+    assert_eq!(read("paths 1\nA 2\nguards 0\nstarts 1\n"), refused(11, 5));
+}
+
+/// "One run of the plan program"
+#[test]
+fn run_program() {
+    let input = "paths 3\n0417 2\n417 4\nA9 3\nguards 2\n0417 417 1\n417 A9 2\n";
+    let output = format!("{input}starts 3\n0417 1\n417 6\nA9 1\n");
+    assert_eq!(sheet::program(input.as_bytes()), output.as_bytes());
+    assert_eq!(sheet::program(b"paths 2\nA 1\nb 1\n"), b"refused 11 line 3\n");
+    assert_eq!(sheet::program(output.as_bytes()), output.as_bytes());
+}
+
+/// "The longest sheet has 45,489 bytes."
+#[test]
+fn the_longest_sheet() {
+    let c = crate::gen::longest(&mut crate::gen::Rng::new(1, 0, 0));
+    let mut text = vec![0; LONGEST_SHEET + 10];
+    let got = sheet::write(c.n, &c.labels, &c.widths, &c.guards, &c.starts, &mut text);
+    assert_eq!(got, Answer::done(LONGEST_SHEET, 0));
+    text.truncate(LONGEST_SHEET - 1);
+    let got = sheet::write(c.n, &c.labels, &c.widths, &c.guards, &c.starts, &mut text);
+    assert_eq!(got, refused(16, 0));
+}
+
+/// 001 Table II: the guard is the number of links in common; the best plan has 13 slots.
+#[test]
+fn table_two_of_001() {
+    let conflicts = [(0, 1, 1), (0, 2, 1), (0, 3, 2), (1, 2, 1), (1, 3, 2), (2, 3, 2)];
+    let net = Network::of(&[3, 2, 3, 1], &conflicts);
+    assert_eq!(brute::best_by_orders(&net), 13);
+    assert_eq!(brute::best_by_plans(&net), 13);
+}
+
+/// 000 Theorem 2.3.1: one guard and one width on a graph of chromatic number k give the best
+/// plan (k-1) GB + k w.
+fn one_guard_one_width(paths: usize, edges: &[(usize, usize)], k: usize, orders: bool) {
+    for (guard, width) in [(0, 1), (1, 1), (2, 1), (1, 2), (3, 2)] {
+        let conflicts: Vec<_> = edges.iter().map(|&(i, j)| (i, j, guard as u8)).collect();
+        let net = Network::of(&vec![width; paths], &conflicts);
+        let best = (k - 1) * guard + k * width;
+        assert_eq!(brute::best_by_plans(&net), best);
+        if orders {
+            assert_eq!(brute::best_by_orders(&net), best);
+        }
+    }
+}
+
+fn ring(paths: usize) -> Vec<(usize, usize)> {
+    (0..paths).map(|i| (i, (i + 1) % paths)).collect()
+}
+
+#[test]
+fn odd_rings() {
+    one_guard_one_width(3, &ring(3), 3, true);
+    one_guard_one_width(5, &ring(5), 3, true);
+    one_guard_one_width(7, &ring(7), 3, true);
+}
+
+#[test]
+fn even_rings() {
+    one_guard_one_width(4, &ring(4), 2, true);
+    one_guard_one_width(6, &ring(6), 2, true);
+}
+
+#[test]
+fn complete_graph_on_five() {
+    let edges: Vec<_> = (0..5).flat_map(|i| (0..i).map(move |j| (j, i))).collect();
+    one_guard_one_width(5, &edges, 5, true);
+}
+
+#[test]
+fn petersen_graph() {
+    let mut edges = ring(5);
+    edges.extend((0..5).map(|i| (i, i + 5)));
+    edges.extend((0..5).map(|i| (5 + i, 5 + (i + 2) % 5)));
+    one_guard_one_width(10, &edges, 3, false);
+}
+
+/// A ring of five, a shadow for each of its paths, and one path joined to all shadows.
+#[test]
+fn groetzsch_graph() {
+    let mut edges = ring(5);
+    for i in 0..5 {
+        edges.extend([(5 + i, (i + 1) % 5), (5 + i, (i + 4) % 5), (5 + i, 10)]);
+    }
+    one_guard_one_width(11, &edges, 4, false);
+}
+
+/// Theorem 6's ratio fails: greedy from the first path reaches 60, the best plan has 36.
+#[test]
+fn greedy_against_best() {
+    let conflicts = [(0, 1, 24), (0, 2, 8), (0, 3, 8), (1, 2, 16), (1, 3, 32), (2, 3, 16)];
+    let net = Network::of(&[1; 4], &conflicts);
+    assert_eq!(brute::best_by_orders(&net), 36);
+    assert_eq!(brute::best_by_plans(&net), 36);
+}
