@@ -12,8 +12,24 @@ struct Packed {
     highest: usize,
 }
 
+#[repr(C)]
+struct Planned {
+    number: usize,
+    place: usize,
+    highest: usize,
+    kept: usize,
+}
+
 // In C a slice is a pointer and then a length.
 extern "C" {
+    fn nesbrunka_improve(
+        n: usize, widths: *const u16, w: usize, guards: *const u8, g: usize, order: *mut u8, o: usize, starts: *mut u16, s: usize, seed: u32,
+        rounds: usize,
+    ) -> Planned;
+    fn nesbrunka_plan(
+        n: usize, widths: *const u16, w: usize, guards: *const u8, g: usize, order: *mut u8, o: usize, starts: *mut u16, s: usize, seed: u32,
+        rounds: usize,
+    ) -> Planned;
     fn nesbrunka_pack(
         n: usize, widths: *const u16, w: usize, guards: *const u8, g: usize, order: *const u8, o: usize, starts: *mut u16, s: usize,
     ) -> Packed;
@@ -136,6 +152,84 @@ fn time(pack: Packer, net: &Network, times: usize) -> f64 {
     began.elapsed().as_secs_f64()
 }
 
+// What improving and planning leave behind.
+type Improved = ([u8; PATHS], [u16; PATHS], usize, usize);
+
+fn planned(call: &str, net: &Network, order: &[u8; PATHS], rounds: usize) -> Improved {
+    let (mut order, mut starts) = (*order, [0u16; PATHS]);
+    let c = if call == "plan" { nesbrunka_plan } else { nesbrunka_improve };
+    let (w, g, o, s) = (net.widths.as_ptr(), net.guards.as_ptr(), order.as_mut_ptr(), starts.as_mut_ptr());
+    let r = unsafe { c(net.n, w, PATHS, g, CELLS, o, PATHS, s, PATHS, 1, rounds) };
+    assert!(r.number == 0, "refused {} at {}", r.number, r.place);
+    (order, starts, r.highest, r.kept)
+}
+
+// The rounds in plain Rust with no tests, over either packing.
+fn rounds(pack: Packer, net: &Network, order: &[u8; PATHS], rounds: usize) -> Improved {
+    let (mut order, mut starts, mut state, mut kept) = (*order, [0u16; PATHS], 1u32, 0);
+    let mut highest = pack(net, &order, &mut starts);
+    let mut draw = || {
+        state = state.wrapping_mul(1664525).wrapping_add(1013904223);
+        (state >> 16) as usize * net.n >> 16
+    };
+    for _ in 0..rounds {
+        let (a, b) = (draw(), draw());
+        order.swap(a, b);
+        let h = pack(net, &order, &mut starts);
+        if h < highest {
+            highest = h;
+            kept += 1;
+        } else {
+            order.swap(a, b);
+        }
+    }
+    pack(net, &order, &mut starts);
+    (order, starts, highest, kept)
+}
+
+fn best(times: usize, mut work: impl FnMut() -> Improved) -> f64 {
+    let mut best = f64::INFINITY;
+    for _ in 0..times {
+        let began = Instant::now();
+        black_box(work());
+        best = best.min(began.elapsed().as_secs_f64());
+    }
+    best
+}
+
+// One line of n paths, each in conflict with the next: the longest that two sides can be.
+fn line(n: usize, random: &mut Random) -> Network {
+    let mut net = network(n, 0, random);
+    for i in 0..n - 1 {
+        let guard = random.below(33) as u8;
+        net.guards[128 * i + i + 1] = guard;
+        net.guards[128 * (i + 1) + i] = guard;
+    }
+    net
+}
+
+fn improving(random: &mut Random) {
+    println!("  n  conflicts  10,000 rounds / same loop in Rust  10,000 rounds / look-back in Rust");
+    for n in [7, 40, 128] {
+        for percent in [5, 50, 100] {
+            let net = network(n, percent, random);
+            let order = net.orders[0];
+            let expected = rounds(look_back, &net, &order, 10000);
+            assert!(planned("improve", &net, &order, 10000) == expected, "the rounds differ");
+            assert!(rounds(push, &net, &order, 10000) == expected, "the rounds differ");
+            let library = best(5, || planned("improve", &net, &order, 10000));
+            let same = best(5, || rounds(push, &net, &order, 10000));
+            let plain = best(2, || rounds(look_back, &net, &order, 10000));
+            println!("{:>3} {:>8} % {:>33.2} {:>34.2}", n, percent, library / same, library / plain);
+        }
+    }
+    println!("goals at 128 and 50 %: at most 1.20, and at most 0.10");
+    let (two, dense) = (line(128, random), network(128, 50, random));
+    let plan = best(50, || planned("plan", &two, &two.orders[0], 1000));
+    let rounds = best(10, || planned("improve", &dense, &dense.orders[0], 1000));
+    println!("planning a line of 128 paths / 1,000 rounds at 128 and 50 %: {:.3} (goal: under 0.050)", plan / rounds);
+}
+
 fn main() {
     let packers: [Packer; 4] = [library, look_back, engine, push];
     let mut random = Random(0x9E3779B97F4A7C15);
@@ -163,4 +257,5 @@ fn main() {
         }
     }
     println!("goals at 128 and 50 %: at most 0.25, and at most 1.20");
+    improving(&mut random);
 }

@@ -1,5 +1,7 @@
 // The figures of document 01 through the public calls, a line each. The file `stdout` that they are held to is worked out by hand from
 // document 01.
+mod plans;
+
 use libc::STDOUT_FILENO;
 use rules::Judged;
 use rules::Packed;
@@ -23,14 +25,14 @@ fn put_three(table: &mut [u16], a: u16, b: u16, c: u16) {
     put(table, 2, c);
 }
 
-fn put_order(order: &mut [u8], a: u8, b: u8, c: u8) {
+pub fn put_order(order: &mut [u8], a: u8, b: u8, c: u8) {
     put_byte(order, 0, a);
     put_byte(order, 1, b);
     put_byte(order, 2, c);
 }
 
 // The guard of i and j, in both cells.
-fn put_guard(guards: &mut [u8], i: usize, j: usize, g: u8)
+pub fn put_guard(guards: &mut [u8], i: usize, j: usize, g: u8)
     requires { ⌜ (i < 128) × (j < 128) ⌝ }
 {
     put_byte(guards, 128 * i + j, g);
@@ -38,18 +40,18 @@ fn put_guard(guards: &mut [u8], i: usize, j: usize, g: u8)
 }
 
 // T: widths 2, 4, 3; guards 0-1 is 1, 1-2 is 2, 0-2 is 0.
-fn put_t(widths: &mut [u16], guards: &mut [u8]) {
+pub fn put_t(widths: &mut [u16], guards: &mut [u8]) {
     put_three(widths, 2, 4, 3);
     put_guard(guards, 0, 1, 1);
     put_guard(guards, 1, 2, 2);
     put_guard(guards, 0, 2, 0);
 }
 
-fn print(text: &[u8]) {
+pub fn print(text: &[u8]) {
     io::write_all(STDOUT_FILENO, text);
 }
 
-fn print_number(x: usize) {
+pub fn print_number(x: usize) {
     print(b" ");
     io::print_decimal(STDOUT_FILENO, x as u64);
 }
@@ -58,12 +60,12 @@ fn print_slot(x: u16) {
     print_number(x as usize);
 }
 
-fn print_path(x: u8) {
+pub fn print_path(x: u8) {
     print_number(x as usize);
 }
 
 // So many cells of a table.
-fn print_starts(starts: &[u16], count: usize) {
+pub fn print_starts(starts: &[u16], count: usize) {
     print(b" starts");
     let mut k: usize = 0;
     while k < count {
@@ -366,4 +368,5 @@ fn main() {
     junk_judge();
     junk_press();
     junk_better();
+    plans::all();
 }

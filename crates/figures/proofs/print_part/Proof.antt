@@ -3,11 +3,6 @@ use lib.ListN.{length}
 use Prim.Native.Nat.{_≤_, _-_}
 use Rattle.figures.proofs.print_part.Statement.{statement}
 use Rattle.figures.proofs.print_part.Tie as tie
-use Rattle.figures.proofs.print_part.Reads as reads
-use Rattle.figures.proofs.print_part.Lts as lts
-use Rattle.figures.proofs.print.Reads as print-reads
-use Rattle.figures.proofs.print_number.Reads as print-number-reads
-use Rattle.figures.proofs.print_path.Reads as print-path-reads
 
 abbrev Inv-loop : tie.InvT-loop
 Inv-loop name part k₀ t5 k = k ≤ length part

@@ -2,10 +2,6 @@ use borrow.Author.Needs.{needs}
 use Prim.Native.Nat.{_≤_, _-_}
 use Rattle.figures.proofs.print_starts.Statement.{statement}
 use Rattle.figures.proofs.print_starts.Tie as tie
-use Rattle.figures.proofs.print_starts.Reads as reads
-use Rattle.figures.proofs.print_starts.Lts as lts
-use Rattle.figures.proofs.print.Reads as print-reads
-use Rattle.figures.proofs.print_slot.Reads as print-slot-reads
 
 abbrev Inv-loop : tie.InvT-loop
 Inv-loop starts count k₀ t5 k = k ≤ count

@@ -4,10 +4,6 @@ use borrow.Author.Needs.{needs}
 use Prim.Native.Nat.{_≤_, _-_}
 use Rattle.figures.proofs.put_all.Statement.{statement}
 use Rattle.figures.proofs.put_all.Tie as tie
-use Rattle.figures.proofs.put_all.Reads as reads
-use Rattle.figures.proofs.put_all.Lts as lts
-use Rattle.figures.proofs.put_byte.Reads as put-byte-reads
-use Rattle.figures.proofs.put_guard.Reads as put-guard-reads
 
 abbrev Inv-loop : tie.InvT-loop
 Inv-loop guards₀ order₀ k₀ guards order k = (k ≤ 128) × ((length guards ≡ length guards₀) × (length order ≡ length order₀))

@@ -1,8 +1,6 @@
 use borrow.Author.Tests.{eq-eqb, ne-eqb}
 use Rattle.tables.proofs.bad_guard.Statement.{statement}
 use Rattle.tables.proofs.bad_guard.Tie as tie
-use Rattle.tables.proofs.bad_guard.Reads as reads
-use Rattle.tables.proofs.bad_guard.Lts as lts
 
 returns : tie.Need-returns
 returns c = simp (eq-eqb _ _ (c .if1 .taken))

@@ -6,10 +6,6 @@ use Rattle.tables.proofs.Tests.{outside-low, outside-high}
 use borrow.Author.Needs.{needs}
 use Rattle.tables.proofs.count_fault.Statement.{statement}
 use Rattle.tables.proofs.count_fault.Tie as tie
-use Rattle.tables.proofs.count_fault.Reads as reads
-use Rattle.tables.proofs.count_fault.Lts as lts
-use Rattle.tables.proofs.accepted.Reads as accepted-reads
-use Rattle.tables.proofs.refused.Reads as refused-reads
 
 refused-requires : tie.Need-refused-requires
 refused-requires c κs = search needs

@@ -9,11 +9,6 @@ use Rattle.rules.specs.Numbers.{badGuard}
 use Rattle.laws.specs.Faults.{square-rows, square-hit, row-miss}
 use Rattle.tables.proofs.guard_fault.Statement.{statement}
 use Rattle.tables.proofs.guard_fault.Tie as tie
-use Rattle.tables.proofs.guard_fault.Reads as reads
-use Rattle.tables.proofs.guard_fault.Lts as lts
-use Rattle.tables.proofs.accepted.Reads as accepted-reads
-use Rattle.tables.proofs.guard_row.Reads as guard-row-reads
-use Rattle.tables.proofs.refused.Reads as refused-reads
 
 abbrev Inv-loop : tie.InvT-loop
 Inv-loop n guards i₀ i = (i ≤ n) × ((k : ℕ) → k < i → found (badGuard guards k) n ≡ false)

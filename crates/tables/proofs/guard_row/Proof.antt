@@ -7,10 +7,6 @@ use Rattle.tables.proofs.Tests.{guard-right}
 use borrow.Author.Needs.{needs}
 use Rattle.tables.proofs.guard_row.Statement.{statement}
 use Rattle.tables.proofs.guard_row.Tie as tie
-use Rattle.tables.proofs.guard_row.Reads as reads
-use Rattle.tables.proofs.guard_row.Lts as lts
-use Rattle.tables.proofs.guard_search.Reads as guard-search-reads
-use Rattle.tables.proofs.row_top.Reads as row-top-reads
 
 row-top-requires : tie.Need-row-top-requires
 row-top-requires c κs = search needs

@@ -8,9 +8,6 @@ use Rattle.rules.specs.Numbers.{badGuard}
 use Rattle.laws.specs.Scans.{first-none, first-at}
 use Rattle.tables.proofs.guard_search.Statement.{statement}
 use Rattle.tables.proofs.guard_search.Tie as tie
-use Rattle.tables.proofs.guard_search.Reads as reads
-use Rattle.tables.proofs.guard_search.Lts as lts
-use Rattle.tables.proofs.bad_guard.Reads as bad-guard-reads
 
 abbrev Inv-loop : tie.InvT-loop
 Inv-loop n i guards j₀ j = (j ≤ n) × ((k : ℕ) → k < j → badGuard guards i k ≡ false)

@@ -1,8 +1,6 @@
 use borrow.Author.Tests.{lt-ltb, le-ltb}
 use Rattle.tables.proofs.is_outside.Statement.{statement}
 use Rattle.tables.proofs.is_outside.Tie as tie
-use Rattle.tables.proofs.is_outside.Reads as reads
-use Rattle.tables.proofs.is_outside.Lts as lts
 
 returns : tie.Need-returns
 returns c = simp (lt-ltb _ _ (c .if1 .taken))

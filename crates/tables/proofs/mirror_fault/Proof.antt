@@ -9,11 +9,6 @@ use Rattle.rules.specs.Numbers.{badMirror}
 use Rattle.laws.specs.Faults.{square-rows, square-hit, row-miss}
 use Rattle.tables.proofs.mirror_fault.Statement.{statement}
 use Rattle.tables.proofs.mirror_fault.Tie as tie
-use Rattle.tables.proofs.mirror_fault.Reads as reads
-use Rattle.tables.proofs.mirror_fault.Lts as lts
-use Rattle.tables.proofs.accepted.Reads as accepted-reads
-use Rattle.tables.proofs.mirror_row.Reads as mirror-row-reads
-use Rattle.tables.proofs.refused.Reads as refused-reads
 
 abbrev Inv-loop : tie.InvT-loop
 Inv-loop n guards i₀ i = (i ≤ n) × ((k : ℕ) → k < i → found (badMirror guards k) n ≡ false)

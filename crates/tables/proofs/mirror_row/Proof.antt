@@ -4,10 +4,6 @@ use Rattle.laws.specs.Scans.{first-none}
 use borrow.Author.Needs.{needs}
 use Rattle.tables.proofs.mirror_row.Statement.{statement}
 use Rattle.tables.proofs.mirror_row.Tie as tie
-use Rattle.tables.proofs.mirror_row.Reads as reads
-use Rattle.tables.proofs.mirror_row.Lts as lts
-use Rattle.tables.proofs.mirror_search.Reads as mirror-search-reads
-use Rattle.tables.proofs.row_apart.Reads as row-apart-reads
 
 row-apart-requires : tie.Need-row-apart-requires
 row-apart-requires c κs = search needs

@@ -9,8 +9,6 @@ use Rattle.laws.specs.Scans.{first-none, first-at}
 use Rattle.tables.proofs.Tests.{mirror-before, mirror-same, mirror-other}
 use Rattle.tables.proofs.mirror_search.Statement.{statement}
 use Rattle.tables.proofs.mirror_search.Tie as tie
-use Rattle.tables.proofs.mirror_search.Reads as reads
-use Rattle.tables.proofs.mirror_search.Lts as lts
 
 abbrev Inv-loop : tie.InvT-loop
 Inv-loop n i guards j₀ j = (i < j) × ((j ≤ n) × ((k : ℕ) → k < j → badMirror guards i k ≡ false))

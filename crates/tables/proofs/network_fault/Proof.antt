@@ -4,12 +4,6 @@ use Rattle.laws.specs.Chains.{number-of, count-clear}
 use borrow.Author.Needs.{needs}
 use Rattle.tables.proofs.network_fault.Statement.{statement}
 use Rattle.tables.proofs.network_fault.Tie as tie
-use Rattle.tables.proofs.network_fault.Reads as reads
-use Rattle.tables.proofs.network_fault.Lts as lts
-use Rattle.tables.proofs.count_fault.Reads as count-fault-reads
-use Rattle.tables.proofs.guard_fault.Reads as guard-fault-reads
-use Rattle.tables.proofs.mirror_fault.Reads as mirror-fault-reads
-use Rattle.tables.proofs.width_fault.Reads as width-fault-reads
 
 count-fault-requires : tie.Need-count-fault-requires
 count-fault-requires c κs = search needs

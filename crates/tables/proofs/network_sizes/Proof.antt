@@ -3,9 +3,6 @@ use Rattle.laws.specs.Faults.{or-stop, or-on}
 use borrow.Author.Needs.{needs}
 use Rattle.tables.proofs.network_sizes.Statement.{statement}
 use Rattle.tables.proofs.network_sizes.Tie as tie
-use Rattle.tables.proofs.network_sizes.Reads as reads
-use Rattle.tables.proofs.network_sizes.Lts as lts
-use Rattle.tables.proofs.size_fault.Reads as size-fault-reads
 
 size-fault-requires : tie.Need-size-fault-requires
 size-fault-requires c κs = search needs

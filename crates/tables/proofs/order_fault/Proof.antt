@@ -8,10 +8,6 @@ use Rattle.laws.specs.Faults.{scan-none, scan-at}
 use Rattle.tables.proofs.Tests.{Met, met-none, entry-over, entry-seen, met-more}
 use Rattle.tables.proofs.order_fault.Statement.{statement}
 use Rattle.tables.proofs.order_fault.Tie as tie
-use Rattle.tables.proofs.order_fault.Reads as reads
-use Rattle.tables.proofs.order_fault.Lts as lts
-use Rattle.tables.proofs.accepted.Reads as accepted-reads
-use Rattle.tables.proofs.refused.Reads as refused-reads
 
 abbrev Inv-loop : tie.InvT-loop
 Inv-loop n order seen₀ p₀ seen p = Met n order seen p

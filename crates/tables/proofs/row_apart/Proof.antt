@@ -8,10 +8,6 @@ use Rattle.rules.specs.Numbers.{badMirror}
 use Rattle.tables.proofs.Tests.{mirror-before, mirror-same}
 use Rattle.tables.proofs.row_apart.Statement.{statement}
 use Rattle.tables.proofs.row_apart.Tie as tie
-use Rattle.tables.proofs.row_apart.Reads as reads
-use Rattle.tables.proofs.row_apart.Lts as lts
-use Rattle.tables.proofs.apart.Reads as apart-reads
-use Rattle.tables.proofs.larger.Reads as larger-reads
 
 abbrev Inv-loop : tie.InvT-loop
 Inv-loop n i guards most₀ j₀ most j = (i < j) × ((j ≤ n) × ((k : ℕ) → k < j → most ≡ 0 → badMirror guards i k ≡ false))

@@ -6,10 +6,6 @@ use borrow.Author.Count.{below-none, below-more}
 use Rattle.rules.specs.Tables.{at, cell}
 use Rattle.tables.proofs.row_top.Statement.{statement}
 use Rattle.tables.proofs.row_top.Tie as tie
-use Rattle.tables.proofs.row_top.Reads as reads
-use Rattle.tables.proofs.row_top.Lts as lts
-use Rattle.tables.proofs.above.Reads as above-reads
-use Rattle.tables.proofs.larger.Reads as larger-reads
 
 abbrev Inv-loop : tie.InvT-loop
 Inv-loop n i guards top₀ j₀ top j = (j ≤ n) × ((k : ℕ) → k < j → top ≤ 33 → (at guards (cell i k) ≡ 255 → ⊥) → at guards (cell i k) ≤ 32)

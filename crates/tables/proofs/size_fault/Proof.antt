@@ -4,10 +4,6 @@ use Rattle.laws.specs.Faults.{refuse-bad, refuse-not}
 use borrow.Author.Needs.{needs}
 use Rattle.tables.proofs.size_fault.Statement.{statement}
 use Rattle.tables.proofs.size_fault.Tie as tie
-use Rattle.tables.proofs.size_fault.Reads as reads
-use Rattle.tables.proofs.size_fault.Lts as lts
-use Rattle.tables.proofs.accepted.Reads as accepted-reads
-use Rattle.tables.proofs.refused.Reads as refused-reads
 
 refused-requires : tie.Need-refused-requires
 refused-requires c κs = search needs

@@ -8,11 +8,6 @@ use Rattle.rules.specs.Numbers.{badWidth}
 use Rattle.laws.specs.Faults.{scan-none, scan-at}
 use Rattle.tables.proofs.width_fault.Statement.{statement}
 use Rattle.tables.proofs.width_fault.Tie as tie
-use Rattle.tables.proofs.width_fault.Reads as reads
-use Rattle.tables.proofs.width_fault.Lts as lts
-use Rattle.tables.proofs.accepted.Reads as accepted-reads
-use Rattle.tables.proofs.is_outside.Reads as is-outside-reads
-use Rattle.tables.proofs.refused.Reads as refused-reads
 
 abbrev Inv-loop : tie.InvT-loop
 Inv-loop n widths k₀ k = (k ≤ n) × ((i : ℕ) → i < k → badWidth widths i ≡ false)
