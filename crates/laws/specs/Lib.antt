@@ -12,3 +12,5 @@ pub mod Floor
 pub mod Bound
 pub mod Improve
 pub mod Faults
+pub mod Texts
+pub mod Lines
