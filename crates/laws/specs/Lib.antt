@@ -13,4 +13,5 @@ pub mod Bound
 pub mod Improve
 pub mod Faults
 pub mod Texts
+pub mod Rows
 pub mod Lines

@@ -1,52 +1,16 @@
 -- The laws of lines and sections, by what their tests say: what code that reads has to show, and what the round trip uses. Assumes nothing.
-use Prim.Native.Nat.{ℕ, zero, suc, _+_, _-_, _≤_, _<_, suc-le-suc}
-use mathlib.Core.Path.{_≡_, refl, sym, ap}
-use mathlib.Core.Bool.{Bool, true, false, not}
+use Prim.Native.Nat.{ℕ, suc, _+_, _-_, _≤_, _<_}
+use mathlib.Core.Path.{_≡_, refl}
+use mathlib.Core.Bool.{true, false, not}
 use mathlib.Core.List.{List, []}
 use lib.ListN.{length, set, drop}
-use lib.Dec.{eqb}
-use native.Mathlib.Nat.{zero-lt-suc}
 use native.Mathlib.Numerals.{add-one}
 use native.Mathlib.Omega.{arith}
-use borrow.Author.Tests.{eq-eqb, ne-eqb, lt-ltb, le-ltb, le-leb, lt-leb, eqb-true}
-use Rattle.rules.specs.Tables.{at, cell, labelByte}
-use Rattle.rules.specs.Scan.{first, found}
+use borrow.Author.Tests.{eq-eqb, ne-eqb, lt-ltb, le-ltb, le-leb, lt-leb}
+use Rattle.rules.specs.Tables.{at, cell}
 use Rattle.rules.specs.Text.{none, some, pathsWord, guardsWord, startsWord}
 use Rattle.rules.specs.Sheet.{isRow, find, putRow, Line, wrong, right, halt, done, follow, lines, countLine, pathLine, guardLine, pathMeans, pathStep, guardCell, guardMeans, guardStep, startMeans, startStep, counted, after, ended, startsPart, guardsPart, sheetFrom}
-use Rattle.laws.specs.Scans.{found-at, found-none, found-not}
 use Rattle.laws.specs.Texts.{here, past}
-
--- tests that agree below n find the same first index
-pub first-same : (test other : ℕ → Bool) (n : ℕ) → ((k : ℕ) → k < n → test k ≡ other k) → first test n ≡ first other n
-unfolding first
-first-same test other zero h = refl
-first-same test other (suc n) h =
-    rw (h zero (zero-lt-suc n), first-same (λ k. test (suc k)) (λ k. other (suc k)) n (λ k l. h (suc k) (suc-le-suc l)))
-
--- path k's label is w, or it is not
-pub row-same : (labels w : List ℕ) (k : ℕ) → ((j : ℕ) → j < 8 → labelByte labels k j ≡ at w j) → isRow labels w k ≡ true
-unfolding isRow
-row-same labels w k h =
-    rw (found-none (λ j. not (eqb (labelByte labels k j) (at w j))) 8 (λ j l. ap not (eq-eqb (labelByte labels k j) (at w j) (h j l))))
-
-pub row-differs : (labels w : List ℕ) (k j : ℕ) → j < 8 → (labelByte labels k j ≡ at w j → ⊥) → isRow labels w k ≡ false
-unfolding isRow
-row-differs labels w k j l h =
-    rw (found-at (λ j. not (eqb (labelByte labels k j) (at w j))) 8 j l (ap not (ne-eqb (labelByte labels k j) (at w j) h)))
-
-not-false-is : (b : Bool) → not b ≡ false → b ≡ true
-not-false-is true e = refl
-not-false-is false e = sym e
-
-not-true-is : (b : Bool) → not b ≡ true → b ≡ false
-not-true-is true e = sym e
-not-true-is false e = refl
-
-pub row-bytes : (labels w : List ℕ) (k : ℕ) → isRow labels w k ≡ true → (j : ℕ) → j < 8 → labelByte labels k j ≡ at w j
-unfolding isRow
-row-bytes labels w k e j l =
-    eqb-true (labelByte labels k j) (at w j)
-    (not-false-is (eqb (labelByte labels k j) (at w j)) (found-not (λ j. not (eqb (labelByte labels k j) (at w j))) 8 (not-true-is (found (λ j. not (eqb (labelByte labels k j) (at w j))) 8) e) j l))
 
 module _ (k : ℕ) (labels widths l : List ℕ) where
   pub path-ill : pathLine l ≡ none → pathStep k (labels, widths) l ≡ wrong 11
@@ -66,9 +30,9 @@ module _ (k : ℕ) (labels widths l : List ℕ) where
     unfolding pathStep pathMeans
     path-wide h g = rw (e, ← f, le-ltb i k h, le-leb 1 v (omega arith), lt-leb v 64 g)
 
-    pub path-right : k ≤ i → 1 ≤ v → v ≤ 64 → pathStep k (labels, widths) l ≡ right (putRow labels k w, set widths k v) l′
+    pub path-fine : k ≤ i → 1 ≤ v → v ≤ 64 → pathStep k (labels, widths) l ≡ right (putRow labels k w, set widths k v) l′
     unfolding pathStep pathMeans
-    path-right h g g′ = rw (e, ← f, le-ltb i k h, le-leb 1 v g, le-leb v 64 g′)
+    path-fine h g g′ = rw (e, ← f, le-ltb i k h, le-leb 1 v g, le-leb v 64 g′)
 
 module _ {T : Type 0} (step : ℕ → T → List ℕ → Line T) (top n k : ℕ) (t : T) (l : List ℕ) where
   pub lines-step : (t′ : T) (l′ : List ℕ) → k < n → step k t l ≡ right t′ l′ → lines step top (n - k) k t l ≡ lines step top (n - (k + 1)) (k + 1) t′ l′
@@ -111,9 +75,9 @@ module _ (n : ℕ) (labels guards l : List ℕ) where
         unfolding guardStep guardMeans guardCell
         guard-over x y = rw (e, ← p, ← q, lt-ltb i n h, lt-ltb j n k, ne-eqb i j d, eq-eqb (at guards (cell i j)) 255 x, lt-leb g 32 y)
 
-        pub guard-right : at guards (cell i j) ≡ 255 → g ≤ 32 → guardStep n labels 0 guards l ≡ right (set (set guards (cell i j) g) (cell j i) g) l′
+        pub guard-fine : at guards (cell i j) ≡ 255 → g ≤ 32 → guardStep n labels 0 guards l ≡ right (set (set guards (cell i j) g) (cell j i) g) l′
         unfolding guardStep guardMeans guardCell
-        guard-right x y = rw (e, ← p, ← q, lt-ltb i n h, lt-ltb j n k, ne-eqb i j d, eq-eqb (at guards (cell i j)) 255 x, le-leb g 32 y)
+        guard-fine x y = rw (e, ← p, ← q, lt-ltb i n h, lt-ltb j n k, ne-eqb i j d, eq-eqb (at guards (cell i j)) 255 x, le-leb g 32 y)
 
 module _ (labels : List ℕ) (k : ℕ) (starts l : List ℕ) where
   pub start-ill : pathLine l ≡ none → startStep labels k starts l ≡ wrong 11
@@ -133,9 +97,9 @@ module _ (labels : List ℕ) (k : ℕ) (starts l : List ℕ) where
     unfolding startStep startMeans
     start-high h g = rw (e, h, le-leb 1 v (omega arith), lt-leb v 16384 g)
 
-    pub start-right : isRow labels w k ≡ true → 1 ≤ v → v ≤ 16384 → startStep labels k starts l ≡ right (set starts k v) l′
+    pub start-fine : isRow labels w k ≡ true → 1 ≤ v → v ≤ 16384 → startStep labels k starts l ≡ right (set starts k v) l′
     unfolding startStep startMeans
-    start-right h g g′ = rw (e, h, le-leb 1 v g, le-leb v 16384 g′)
+    start-fine h g g′ = rw (e, h, le-leb 1 v g, le-leb v 16384 g′)
 
 -- a guard's line does not go by its index
 pub guard-any : (n : ℕ) (labels : List ℕ) (k : ℕ) (guards l : List ℕ) → guardStep n labels k guards l ≡ guardStep n labels 0 guards l

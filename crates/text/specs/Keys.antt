@@ -7,13 +7,15 @@ use native.Mathlib.Nat.{pow-le-pow-right, lt-of-lt-of-le}
 use native.Mathlib.Decide.{ℕ-discrete}
 use native.Mathlib.Numerals.{add-one}
 use native.Mathlib.Omega.{arith}
+use lib.ListN.{length, set}
 use lib.Dec.{eqb, lit<}
 use borrow.Author.Tests.{eq-eqb, ne-eqb}
 use Rattle.rules.specs.Tables.{at, labelByte}
 use Rattle.rules.specs.Scan.{first}
-use Rattle.rules.specs.Sheet.{isRow, find}
+use Rattle.rules.specs.Sheet.{isRow, find, putRow}
 use Rattle.laws.specs.Count.{each-suc}
-use Rattle.laws.specs.Lines.{first-same, row-same, row-bytes}
+use Rattle.laws.specs.Tables.{at-same, at-other}
+use Rattle.laws.specs.Rows.{first-same, row-same, row-bytes, put-in, put-before}
 
 -- the first m bytes of f
 unfoldable pub pack : ℕ → (ℕ → ℕ) → ℕ
@@ -77,3 +79,22 @@ row-key labels w k a b p q = go (ℕ-discrete a b)
 pub find-key : (labels keys w : List ℕ) (n key : ℕ) → Keyed labels keys n → Key (at w) key → find labels n w ≡ first (λ k. eqb (at keys k) key) n
 unfolding find
 find-key labels keys w n key h q = first-same (isRow labels w) (λ k. eqb (at keys k) key) n (λ k l. row-key labels w k (at keys k) key (h k l) q)
+
+-- the key of one path more
+key-of : (f g : ℕ → ℕ) (a b : ℕ) → a ≡ b → ((j : ℕ) → j < 8 → f j ≡ g j) → Key g b → Key f a
+key-of f g a b e h k = record {
+  value = e ∙ k .value ∙ sym (pack-equal 8 f g h);
+  bytes = λ j l. omega (arith, h j l, k .bytes j l);
+}
+
+pub keyed-more : (labels keys w : List ℕ) (k key : ℕ) → Keyed labels keys k → Key (at w) key → 8 * k + 8 ≤ length labels → k < length keys
+    → Keyed (putRow labels k w) (set keys k key) (k + 1)
+keyed-more labels keys w k key h q a b i l = go (ℕ-discrete i k)
+  where
+    go : Dec (i ≡ k) → Key (labelByte (putRow labels k w) i) (at (set keys k key) i)
+    go (yes e) = rw e (key-of (labelByte (putRow labels k w) k) (at w) (at (set keys k key) k) key (at-same keys k key b) (λ j g. put-in labels w k j a g) q)
+    go (no ne) = key-of (labelByte (putRow labels k w) i) (labelByte labels i) (at (set keys k key) i) (at keys i) (at-other keys k key i ne)
+        (λ j g. put-before labels w k (8 * i + j) (omega arith)) (h i (omega arith))
+
+pub keyed-none : (labels keys : List ℕ) → Keyed labels keys 0
+keyed-none labels keys i l = absurd (omega arith)
