@@ -15,3 +15,6 @@ pub mod Faults
 pub mod Texts
 pub mod Rows
 pub mod Lines
+pub mod Updates
+pub mod Marks
+pub mod Accepted

@@ -1,0 +1,17 @@
+use borrow.Author.Tests.{eq-eqb, ne-eqb}
+use Rattle.tables.proofs.bad_guard.Statement.{statement}
+use Rattle.tables.proofs.bad_guard.Tie as tie
+use Rattle.tables.proofs.bad_guard.Reads as reads
+use Rattle.tables.proofs.bad_guard.Lts as lts
+
+returns : tie.Need-returns
+returns c = simp (eq-eqb _ _ (c .if1 .taken))
+
+returns-2 : tie.Need-returns-2
+returns-2 c = simp (ne-eqb _ _ (c .before .if1 .left), eq-eqb _ _ (c .if2 .taken))
+
+returns-3 : tie.Need-returns-3
+returns-3 c = simp (ne-eqb _ _ (c .before .if1 .left), ne-eqb _ _ (c .if2 .left))
+
+pub bad-guard-spec : {M : Type 1} → statement M
+bad-guard-spec = tie.close (tie.spec returns returns-2 returns-3)

@@ -1,0 +1,81 @@
+use Prim.Native.Nat.{ℕ, _≤_, _<_, _-_}
+use mathlib.Core.Path.{_≡_, sym, _∙_}
+use mathlib.Core.Bool.{false}
+use native.Mathlib.Omega.{arith}
+use borrow.Author.Needs.{needs}
+use borrow.Author.Count.{below-none, below-more}
+use Rattle.rules.specs.Scan.{found}
+use Rattle.rules.specs.Numbers.{badGuard}
+use Rattle.laws.specs.Faults.{square-rows, square-hit, row-miss}
+use Rattle.tables.proofs.guard_fault.Statement.{statement}
+use Rattle.tables.proofs.guard_fault.Tie as tie
+use Rattle.tables.proofs.guard_fault.Reads as reads
+use Rattle.tables.proofs.guard_fault.Lts as lts
+use Rattle.tables.proofs.accepted.Reads as accepted-reads
+use Rattle.tables.proofs.guard_row.Reads as guard-row-reads
+use Rattle.tables.proofs.refused.Reads as refused-reads
+
+abbrev Inv-loop : tie.InvT-loop
+Inv-loop n guards i₀ i = (i ≤ n) × ((k : ℕ) → k < i → found (badGuard guards k) n ≡ false)
+
+abbrev μ-loop : tie.MeasureT-loop
+μ-loop n guards i₀ i = n - i
+
+loop-holds : tie.Need-loop-holds Inv-loop μ-loop
+loop-holds c = (search needs, below-none _)
+
+guard-row-requires : tie.Need-guard-row-requires Inv-loop μ-loop
+guard-row-requires c κs = search needs
+
+mul-refused : tie.Need-mul-refused Inv-loop μ-loop
+mul-refused c = search needs
+
+add-refused : tie.Need-add-refused Inv-loop μ-loop
+add-refused c = search needs
+
+refused-requires : tie.Need-refused-requires Inv-loop μ-loop
+refused-requires c κs = search needs
+
+returns : tie.Need-returns Inv-loop μ-loop
+returns c =
+    let h = c .before .before .before .before in
+    let a = h .before .before .args in
+    c .refused .ensures ∙ square-hit 4 (badGuard (a .guards .now)) (a .n) (h .loop .i) (c .before .before .guard-row .result) (h .loop .inv .1) (c .before .before .guard-row .ensures) (c .before .if1 .taken) (omega arith)
+
+add-i : tie.Need-add-i Inv-loop μ-loop
+add-i c = search needs
+
+loop-less : tie.Need-loop-less Inv-loop μ-loop
+loop-less c = search needs
+
+loop-again : tie.Need-loop-again Inv-loop μ-loop
+loop-again c =
+    let h = c .before .before .before in
+    let a = h .before .before .args in
+    (search needs, below-more _ _ (h .loop .inv .1) (row-miss (badGuard (a .guards .now)) (a .n) (h .loop .i) (c .before .guard-row .result) (c .before .guard-row .ensures) (c .if1 .left)))
+
+accepted-requires : tie.Need-accepted-requires Inv-loop μ-loop
+accepted-requires c κs = search needs
+
+returns-2 : tie.Need-returns-2 Inv-loop μ-loop
+returns-2 c =
+    let a = c .before .before .before .before .args in
+    c .accepted .ensures ∙ sym (square-rows 4 (badGuard (a .guards .now)) (a .n) (λ k l. c .before .before .loop .inv .1 k (omega arith)))
+
+pub guard-fault-spec : {M : Type 1} → statement M
+guard-fault-spec =
+    tie.close
+    (tie.spec
+    Inv-loop
+    μ-loop
+    loop-holds
+    guard-row-requires
+    mul-refused
+    add-refused
+    refused-requires
+    returns
+    add-i
+    loop-less
+    loop-again
+    accepted-requires
+    returns-2)

@@ -1,0 +1,70 @@
+use Rattle.rules.specs.Numbers.{networkFault}
+use Rattle.laws.specs.Faults.{or-stop, or-on}
+use Rattle.laws.specs.Accepted.{number-of, count-clear}
+use borrow.Author.Needs.{needs}
+use Rattle.tables.proofs.network_fault.Statement.{statement}
+use Rattle.tables.proofs.network_fault.Tie as tie
+use Rattle.tables.proofs.network_fault.Reads as reads
+use Rattle.tables.proofs.network_fault.Lts as lts
+use Rattle.tables.proofs.count_fault.Reads as count-fault-reads
+use Rattle.tables.proofs.guard_fault.Reads as guard-fault-reads
+use Rattle.tables.proofs.mirror_fault.Reads as mirror-fault-reads
+use Rattle.tables.proofs.width_fault.Reads as width-fault-reads
+
+count-fault-requires : tie.Need-count-fault-requires
+count-fault-requires c κs = search needs
+
+returns : tie.Need-returns
+unfolding networkFault
+returns c = or-stop _ (c .before .before .count-fault .ensures) (c .if1 .taken)
+
+width-fault-requires : tie.Need-width-fault-requires
+width-fault-requires c κs = (count-clear _ (number-of (c .before .before .count-fault .ensures) (c .if1 .left)) .1, search needs)
+
+returns-2 : tie.Need-returns-2
+unfolding networkFault
+returns-2 c =
+    let w = c .before .before in
+    let n = w .before .before .before in
+    or-on _ (n .count-fault .ensures) (w .before .if1 .left) (or-stop _ (w .width-fault .ensures) (c .if2 .taken))
+
+guard-fault-requires : tie.Need-guard-fault-requires
+guard-fault-requires c κs =
+    let w = c .before .before in
+    let n = w .before .before .before in
+    (count-clear _ (number-of (n .count-fault .ensures) (w .before .if1 .left)) .1, search needs)
+
+returns-3 : tie.Need-returns-3
+unfolding networkFault
+returns-3 c =
+    let g = c .before .before in
+    let w = g .before .before .before in
+    let n = w .before .before .before in
+    or-on _ (n .count-fault .ensures) (w .before .if1 .left) (or-on _ (w .width-fault .ensures) (g .before .if2 .left) (or-stop _ (g .guard-fault .ensures) (c .if3 .taken)))
+
+mirror-fault-requires : tie.Need-mirror-fault-requires
+mirror-fault-requires c κs =
+    let w = c .before .before .before .before .before in
+    let n = w .before .before .before in
+    (count-clear _ (number-of (n .count-fault .ensures) (w .before .if1 .left)) .1, search needs)
+
+returns-4 : tie.Need-returns-4
+unfolding networkFault
+returns-4 c =
+    let g = c .before .before .before in
+    let w = g .before .before .before in
+    let n = w .before .before .before in
+    or-on _ (n .count-fault .ensures) (w .before .if1 .left) (or-on _ (w .width-fault .ensures) (g .before .if2 .left) (or-on _ (g .guard-fault .ensures) (c .before .if3 .left) (c .mirror-fault .ensures)))
+
+pub network-fault-spec : {M : Type 1} → statement M
+network-fault-spec =
+    tie.close
+    (tie.spec
+    count-fault-requires
+    returns
+    width-fault-requires
+    returns-2
+    guard-fault-requires
+    returns-3
+    mirror-fault-requires
+    returns-4)

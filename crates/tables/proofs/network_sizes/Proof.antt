@@ -1,0 +1,26 @@
+use Rattle.rules.specs.Numbers.{sizeFault, networkSizes}
+use Rattle.laws.specs.Faults.{or-stop, or-on}
+use borrow.Author.Needs.{needs}
+use Rattle.tables.proofs.network_sizes.Statement.{statement}
+use Rattle.tables.proofs.network_sizes.Tie as tie
+use Rattle.tables.proofs.network_sizes.Reads as reads
+use Rattle.tables.proofs.network_sizes.Lts as lts
+use Rattle.tables.proofs.size_fault.Reads as size-fault-reads
+
+size-fault-requires : tie.Need-size-fault-requires
+size-fault-requires c κs = search needs
+
+returns : tie.Need-returns
+unfolding networkSizes sizeFault
+returns c = or-stop _ (c .before .before .size-fault .ensures) (c .if1 .taken)
+
+size-fault-requires-2 : tie.Need-size-fault-requires-2
+size-fault-requires-2 c κs = search needs
+
+returns-2 : tie.Need-returns-2
+unfolding networkSizes sizeFault
+returns-2 c = or-on _ (c .before .before .before .size-fault .ensures) (c .before .if1 .left) (c .size-fault2 .ensures)
+
+pub network-sizes-spec : {M : Type 1} → statement M
+network-sizes-spec =
+    tie.close (tie.spec size-fault-requires returns size-fault-requires-2 returns-2)

@@ -1,0 +1,303 @@
+// The tests of lent tables, each once, for every call. Document 01, "Numbers returned": each scan goes from the lowest index, by i then j,
+// and cells of index n or more are never tested. A square is tested by rows, with no branch on a cell so that the compiler makes vector
+// code of it; the first cell at fault is looked for only in a row that has one.
+use rules::Fault;
+ghost use mathlib.Core.Path.{_≡_};
+ghost use mathlib.Core.Bool.{false, not, _||_, _&&_};
+ghost use Prim.Native.Nat.{ℕ, _+_, _*_, _≤_, _<_, max};
+ghost use lib.Dec.{ltb, eqb};
+ghost use lib.ListN.{length};
+ghost use Rattle.rules.specs.Tables.{at, cell};
+ghost use Rattle.rules.specs.Scan.{first};
+ghost use Rattle.rules.specs.Numbers.{fault, noFault, refuseIf, scan, square, outside, countFault, networkSizes, badWidth, badGuard, badMirror, orderFault, startFault, networkFault};
+
+pub fn refused(number: usize, place: usize) -> Fault
+    ensures { λ r. ⌜ r ≡ fault number place ⌝ }
+{
+    Fault {
+        number: number,
+        place: place,
+    }
+}
+
+// Nothing is at fault: 0, place 0.
+pub fn accepted() -> Fault
+    ensures { λ r. ⌜ r ≡ noFault ⌝ }
+{
+    Fault {
+        number: 0,
+        place: 0,
+    }
+}
+
+// 1: n not 1 to 128.
+pub fn count_fault(n: usize) -> Fault
+    ensures { λ r. ⌜ r ≡ countFault n ⌝ }
+{
+    if n < 1 {
+        return refused(1, 0);
+    }
+    if rules::PATHS < n {
+        return refused(1, 0);
+    }
+    accepted()
+}
+
+// 2: a lent table of so many cells is not of its size.
+pub fn size_fault(cells: usize, size: usize) -> Fault
+    ensures { λ r. ⌜ r ≡ refuseIf (not (eqb cells size)) 2 0 ⌝ }
+{
+    if cells != size {
+        return refused(2, 0);
+    }
+    accepted()
+}
+
+// 2, of the tables that every call is lent.
+pub fn network_sizes(widths: &[u16], guards: &[u8]) -> Fault
+    ensures { λ r. ⌜ r ≡ networkSizes (now (widths .entry)) (now (guards .entry)) ⌝ }
+{
+    let f = size_fault(widths.len(), rules::PATHS);
+    if f.number != 0 {
+        return f;
+    }
+    size_fault(guards.len(), rules::CELLS)
+}
+
+fn is_outside(least: u16, most: u16, x: u16) -> bool
+    ensures { λ r. ⌜ r ≡ outside least most x ⌝ }
+{
+    if x < least {
+        return true;
+    }
+    most < x
+}
+
+// 3: width not 1 to 64.
+pub fn width_fault(n: usize, widths: &[u16]) -> Fault
+    requires { ⌜ (n ≤ 128) × (length (now widths) ≡ 128) ⌝ }
+    ensures { λ r. ⌜ r ≡ scan 3 (badWidth (now (widths .entry))) n ⌝ }
+{
+    let mut k: usize = 0;
+    while k < n {
+        let w = widths[k];
+        if is_outside(1, rules::WIDTH_MOST, w) {
+            return refused(3, k);
+        }
+        k += 1;
+    }
+    accepted()
+}
+
+// 7: start not 1 to 16,384.
+pub fn start_fault(n: usize, starts: &[u16]) -> Fault
+    requires { ⌜ (n ≤ 128) × (length (now starts) ≡ 128) ⌝ }
+    ensures { λ r. ⌜ r ≡ startFault n (now (starts .entry)) ⌝ }
+{
+    let mut k: usize = 0;
+    while k < n {
+        let s = starts[k];
+        if is_outside(1, rules::START_MOST, s) {
+            return refused(7, k);
+        }
+        k += 1;
+    }
+    accepted()
+}
+
+// 4, of one cell: "guard cell not 0 to 32 or 255, diagonal not 255".
+fn bad_guard(i: usize, j: usize, g: u8) -> bool
+    ensures { λ r. ⌜ r ≡ (not (eqb g 255) && (eqb i j || ltb 32 g)) ⌝ }
+{
+    if g == rules::NO_CONFLICT {
+        return false;
+    }
+    if i == j {
+        return true;
+    }
+    rules::GUARD_MOST < g
+}
+
+// The first cell of row i that is at fault, or n.
+fn guard_search(n: usize, i: usize, guards: &[u8]) -> usize
+    requires { ⌜ (n ≤ 128) × ((i < n) × (length (now guards) ≡ 16384)) ⌝ }
+    ensures { λ r. ⌜ r ≡ first (badGuard (now (guards .entry)) i) n ⌝ }
+{
+    let mut j: usize = 0;
+    while j < n {
+        let g = guards[128 * i + j];
+        if bad_guard(i, j, g) {
+            return j;
+        }
+        j += 1;
+    }
+    n
+}
+
+fn larger(a: u8, b: u8) -> u8
+    ensures { λ r. ⌜ r ≡ max a b ⌝ }
+{
+    if a < b { b } else { a }
+}
+
+// One more than a guard, and 0 for no conflict: at most 33 for a cell that is right.
+fn above(g: u8) -> u8
+    ensures { λ r. ⌜ (r ≤ 33 → (g ≡ 255 → ⊥) → g ≤ 32) ⌝ }
+{
+    if g == rules::NO_CONFLICT { 0 } else { g + 1 }
+}
+
+// The largest of a row, by that measure.
+fn row_top(n: usize, i: usize, guards: &[u8]) -> u8
+    requires { ⌜ (n ≤ 128) × ((i < n) × (length (now guards) ≡ 16384)) ⌝ }
+    ensures { λ r. ⌜ (r ≤ 33 → (j : ℕ) → j < n → (at (now (guards .entry)) (cell i j) ≡ 255 → ⊥) → at (now (guards .entry)) (cell i j) ≤ 32) ⌝ }
+{
+    let mut top: u8 = 0;
+    let mut j: usize = 0;
+    while j < n {
+        let g = guards[128 * i + j];
+        let x = above(g);
+        top = larger(top, x);
+        j += 1;
+    }
+    top
+}
+
+// The first cell of row i that is at fault, or n; a row that is right is told by its largest cell and its diagonal.
+fn guard_row(n: usize, i: usize, guards: &[u8]) -> usize
+    requires { ⌜ (n ≤ 128) × ((i < n) × (length (now guards) ≡ 16384)) ⌝ }
+    ensures { λ r. ⌜ r ≡ first (badGuard (now (guards .entry)) i) n ⌝ }
+{
+    let t = row_top(n, i, guards);
+    let d = guards[128 * i + i];
+    if t <= 33 {
+        if d == rules::NO_CONFLICT {
+            return n;
+        }
+    }
+    guard_search(n, i, guards)
+}
+
+// 4, over the whole square.
+pub fn guard_fault(n: usize, guards: &[u8]) -> Fault
+    requires { ⌜ (n ≤ 128) × (length (now guards) ≡ 16384) ⌝ }
+    ensures { λ r. ⌜ r ≡ square 4 (badGuard (now (guards .entry))) n ⌝ }
+{
+    let mut i: usize = 0;
+    while i < n {
+        let j = guard_row(n, i, guards);
+        if j < n {
+            return refused(4, 128 * i + j);
+        }
+        i += 1;
+    }
+    accepted()
+}
+
+// The first cell of row i past the diagonal that is unequal to its mirror, or n.
+fn mirror_search(n: usize, i: usize, guards: &[u8]) -> usize
+    requires { ⌜ (n ≤ 128) × ((i < n) × (length (now guards) ≡ 16384)) ⌝ }
+    ensures { λ r. ⌜ r ≡ first (badMirror (now (guards .entry)) i) n ⌝ }
+{
+    let mut j: usize = i + 1;
+    while j < n {
+        if guards[128 * i + j] != guards[128 * j + i] {
+            return j;
+        }
+        j += 1;
+    }
+    n
+}
+
+// 0 where two cells are equal.
+fn apart(a: u8, b: u8) -> u8
+    ensures { λ r. ⌜ (r ≡ 0 → a ≡ b) ⌝ }
+{
+    if a == b { 0 } else { 1 }
+}
+
+// 0 where row i past the diagonal is equal to its mirror.
+fn row_apart(n: usize, i: usize, guards: &[u8]) -> u8
+    requires { ⌜ (n ≤ 128) × ((i < n) × (length (now guards) ≡ 16384)) ⌝ }
+    ensures { λ r. ⌜ (r ≡ 0 → (j : ℕ) → j < n → badMirror (now (guards .entry)) i j ≡ false) ⌝ }
+{
+    let mut most: u8 = 0;
+    let mut j: usize = i + 1;
+    while j < n {
+        let a = guards[128 * i + j];
+        let b = guards[128 * j + i];
+        let x = apart(a, b);
+        most = larger(most, x);
+        j += 1;
+    }
+    most
+}
+
+// The first cell of row i past the diagonal that is unequal to its mirror, or n.
+fn mirror_row(n: usize, i: usize, guards: &[u8]) -> usize
+    requires { ⌜ (n ≤ 128) × ((i < n) × (length (now guards) ≡ 16384)) ⌝ }
+    ensures { λ r. ⌜ r ≡ first (badMirror (now (guards .entry)) i) n ⌝ }
+{
+    let most = row_apart(n, i, guards);
+    if most == 0 {
+        return n;
+    }
+    mirror_search(n, i, guards)
+}
+
+// 5: the place is that of the cell with i<j, never its mirror's.
+pub fn mirror_fault(n: usize, guards: &[u8]) -> Fault
+    requires { ⌜ (n ≤ 128) × (length (now guards) ≡ 16384) ⌝ }
+    ensures { λ r. ⌜ r ≡ square 5 (badMirror (now (guards .entry))) n ⌝ }
+{
+    let mut i: usize = 0;
+    while i < n {
+        let j = mirror_row(n, i, guards);
+        if j < n {
+            return refused(5, 128 * i + j);
+        }
+        i += 1;
+    }
+    accepted()
+}
+
+// 6: order entry n or more, or seen earlier. seen[k] is 1 once path k has been met.
+pub fn order_fault(n: usize, order: &[u8]) -> Fault
+    requires { ⌜ (n ≤ 128) × (length (now order) ≡ 128) ⌝ }
+    ensures { λ r. ⌜ r ≡ orderFault n (now (order .entry)) ⌝ }
+{
+    let mut seen = [0u8; 128];
+    let mut p: usize = 0;
+    while p < n {
+        let k = order[p] as usize;
+        if n <= k {
+            return refused(6, p);
+        }
+        if seen[k] != 0 {
+            return refused(6, p);
+        }
+        seen[k] = 1;
+        p += 1;
+    }
+    accepted()
+}
+
+// 1, 3, 4, 5: a network, in this order; 4 over the whole square before 5.
+pub fn network_fault(n: usize, widths: &[u16], guards: &[u8]) -> Fault
+    requires { ⌜ (length (now widths) ≡ 128) × (length (now guards) ≡ 16384) ⌝ }
+    ensures { λ r. ⌜ r ≡ networkFault n (now (widths .entry)) (now (guards .entry)) ⌝ }
+{
+    let c = count_fault(n);
+    if c.number != 0 {
+        return c;
+    }
+    let w = width_fault(n, widths);
+    if w.number != 0 {
+        return w;
+    }
+    let g = guard_fault(n, guards);
+    if g.number != 0 {
+        return g;
+    }
+    mirror_fault(n, guards)
+}
