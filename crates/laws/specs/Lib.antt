@@ -15,6 +15,7 @@ pub mod Faults
 pub mod Texts
 pub mod Rows
 pub mod Lines
+pub mod Writes
 pub mod Updates
 pub mod Marks
 pub mod Accepted

@@ -1,60 +1,23 @@
 -- What the reader's tests and parts come to, against the calls' definitions. Assumes nothing.
 use Prim.Native.Nat.{ℕ}
-use mathlib.Core.Path.{_≡_, refl, sym, ap, _∙_}
+use mathlib.Core.Path.{_≡_, sym, ap, _∙_}
 use mathlib.Core.Logic.{_≢_}
 use mathlib.Core.List.{List, []}
 use lib.ListN.{length}
-use native.Mathlib.Omega.{arith}
 use borrow.Author.Tests.{eq-eqb, ne-eqb}
 use Rattle.rules.specs.declared.Fault.{Fault}
 use Rattle.rules.specs.declared.SheetRead.{SheetRead}
 use Rattle.rules.specs.Tables.{cleared}
 use Rattle.rules.specs.Sheet.{Section, halt, done, after, sheetFrom}
-use Rattle.rules.specs.Numbers.{fault, noFault, _orElse_, sizeFault, networkSizes, sheetSizes}
+use Rattle.rules.specs.Numbers.{_orElse_, sizeFault, networkSizes, sheetSizes}
 use Rattle.rules.specs.Calls.{Left, left, unless, readOutcome, reading}
-use Rattle.laws.specs.Faults.{or-stop, or-on, or-clear, size-bad, size-good, size-clear}
+use Rattle.laws.specs.Faults.{or-clear, size-clear}
+use Rattle.sheet.specs.Written.{Sized}
 use Rattle.sheet.specs.Says.{SectionIs}
 use Rattle.sheet.specs.declared.Part.{Part}
 use Rattle.sheet.specs.declared.Part.the-variants.{Over, Halt}
 
--- the sizes of the four tables, in their order
-module _ (labels widths guards starts : List ℕ) where
-  pub sizes-labels : length labels ≢ 1024 → fault 2 0 ≡ sheetSizes labels widths guards starts
-  unfolding sheetSizes
-  sizes-labels d = or-stop (networkSizes widths guards orElse sizeFault starts 128) (size-bad labels 1024 d) (λ z. omega arith)
-
-  module _ (a : length labels ≡ 1024) where
-    from-widths : (f : Fault) → f ≡ (networkSizes widths guards orElse sizeFault starts 128) → f ≡ sheetSizes labels widths guards starts
-    unfolding sheetSizes
-    from-widths f e = or-on (networkSizes widths guards orElse sizeFault starts 128) (size-good labels 1024 a) refl e
-
-    pub sizes-widths : length widths ≢ 128 → fault 2 0 ≡ sheetSizes labels widths guards starts
-    unfolding networkSizes
-    sizes-widths d = from-widths (fault 2 0) (or-stop (sizeFault starts 128) (or-stop (sizeFault guards 16384) (size-bad widths 128 d) (λ z. omega arith)) (λ z. omega arith))
-
-    module _ (b : length widths ≡ 128) where
-      pub sizes-guards : length guards ≢ 16384 → fault 2 0 ≡ sheetSizes labels widths guards starts
-      unfolding networkSizes
-      sizes-guards d = from-widths (fault 2 0) (or-stop (sizeFault starts 128) (or-on (sizeFault guards 16384) (size-good widths 128 b) refl (size-bad guards 16384 d)) (λ z. omega arith))
-
-      module _ (g : length guards ≡ 16384) where
-        network-good : noFault ≡ networkSizes widths guards
-        unfolding networkSizes
-        network-good = or-on (sizeFault guards 16384) (size-good widths 128 b) refl (size-good guards 16384 g)
-
-        pub sizes-starts : length starts ≢ 128 → fault 2 0 ≡ sheetSizes labels widths guards starts
-        sizes-starts d = from-widths (fault 2 0) (or-on (sizeFault starts 128) network-good refl (size-bad starts 128 d))
-
-        pub sizes-good : length starts ≡ 128 → noFault ≡ sheetSizes labels widths guards starts
-        sizes-good e = from-widths noFault (or-on (sizeFault starts 128) network-good refl (size-good starts 128 e))
-
--- tables of the right sizes
-pub record Sized (labels widths guards starts : List ℕ) : Type 0 where
-  pub labels-size : length labels ≡ 1024
-  pub widths-size : length widths ≡ 128
-  pub guards-size : length guards ≡ 16384
-  pub starts-size : length starts ≡ 128
-
+-- tables whose sizes are not refused
 pub sizes-clear : (labels widths guards starts : List ℕ) (f : Fault) → f ≡ sheetSizes labels widths guards starts → f .number ≡ 0 → Sized labels widths guards starts
 unfolding sheetSizes networkSizes
 sizes-clear labels widths guards starts f e z =

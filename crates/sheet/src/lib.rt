@@ -5,12 +5,19 @@ ghost use Prim.Native.Nat.{ℕ, _+_, _*_, _≤_, _<_};
 ghost use lib.ListN.{length, drop};
 ghost use Rattle.rules.specs.Tables.{cleared};
 ghost use Rattle.rules.specs.Sheet.{lines, pathStep, guardStep, startStep, startsPart, guardsPart, sheetFrom};
-ghost use Rattle.rules.specs.Numbers.{sheetSizes};
-ghost use Rattle.rules.specs.Calls.{left, readOutcome, reading};
+ghost use mathlib.Core.Bool.{false, cond};
+ghost use lib.Dec.{ltb};
+ghost use Rattle.rules.specs.Scan.{sum};
+ghost use Rattle.rules.specs.Writing.{badLabel, labelTwice, isPair, pairs, hasPlan, joinFrom, pathText, guardText, startsText, sheetText};
+ghost use Rattle.rules.specs.Numbers.{scan, sheetSizes};
+ghost use Rattle.rules.specs.Calls.{left, readOutcome, reading, writing};
+ghost use Rattle.text.specs.Says.{Wrote};
+ghost use Rattle.sheet.specs.Written.{Sized, guardLines, planFault, tableFault};
 ghost use Rattle.text.specs.Keys.{Keyed};
 ghost use Rattle.sheet.specs.Says.{GuardLineIs, StepIs, StepWithin, PathStepIs, SectionIs, PartWithin, PathsAre, WholeIs};
 use rules::Fault;
 use rules::SheetRead;
+use rules::SheetWritten;
 use text::Amount;
 use text::Next;
 use text::PathLine;
@@ -390,34 +397,15 @@ fn read_sized(
 fn sheet_sizes(labels: &[u8], widths: &[u16], guards: &[u8], starts: &[u16]) -> Fault
     ensures { λ r. ⌜ r ≡ sheetSizes (now (labels .entry)) (now (widths .entry)) (now (guards .entry)) (now (starts .entry)) ⌝ }
 {
-    if labels.len() != 1024 {
-        return Fault {
-            number: 2,
-            place: 0,
-        };
+    let f = tables::size_fault(labels.len(), rules::LABELS);
+    if f.number != 0 {
+        return f;
     }
-    if widths.len() != 128 {
-        return Fault {
-            number: 2,
-            place: 0,
-        };
+    let g = tables::network_sizes(widths, guards);
+    if g.number != 0 {
+        return g;
     }
-    if guards.len() != 16384 {
-        return Fault {
-            number: 2,
-            place: 0,
-        };
-    }
-    if starts.len() != 128 {
-        return Fault {
-            number: 2,
-            place: 0,
-        };
-    }
-    Fault {
-        number: 0,
-        place: 0,
-    }
+    tables::size_fault(starts.len(), rules::PATHS)
 }
 
 // Reads a sheet into the four tables: "2 first, then the first line at fault".
@@ -440,4 +428,343 @@ pub fn read(
         };
     }
     read_sized(text, labels, widths, guards, starts)
+}
+
+// 11, over all paths.
+fn label_fault(n: usize, labels: &[u8]) -> Fault
+    requires { ⌜ (n ≤ 128) × (length (now labels) ≡ 1024) ⌝ }
+    ensures { λ r. ⌜ r ≡ scan 11 (badLabel (now (labels .entry))) n ⌝ }
+{
+    let mut k = 0;
+    while k < n {
+        if text::bad_label(labels, k) {
+            return tables::refused(11, k);
+        }
+        k += 1;
+    }
+    tables::accepted()
+}
+
+// 12, over all paths, once none is refused 11.
+fn twice_fault(n: usize, labels: &[u8]) -> Fault
+    requires { ⌜ (n ≤ 128) × (length (now labels) ≡ 1024) × ((k : ℕ) → k < n → badLabel (now labels) k ≡ false) ⌝ }
+    ensures { λ r. ⌜ r ≡ scan 12 (labelTwice (now (labels .entry))) n ⌝ }
+{
+    let mut keys = [0usize; 128];
+    let mut k = 0;
+    while k < n {
+        let key = text::row_key(labels, k);
+        let i = text::find(&keys, k, key);
+        if i < k {
+            return tables::refused(12, k);
+        }
+        keys[k] = key;
+        k += 1;
+    }
+    tables::accepted()
+}
+
+// 1 for a cell that is a conflict, 0 for 255.
+fn is_conflict(guard: u8) -> usize
+    ensures { λ r. ⌜ r ≡ cond (ltb guard 255) 1 0 ⌝ }
+{
+    if guard < 255 { 1 } else { 0 }
+}
+
+// The pairs of path i and a later path that have a guard line.
+fn row_pairs(n: usize, i: usize, guards: &[u8]) -> usize
+    requires { ⌜ (i < n) × (n ≤ 128) × (length (now guards) ≡ 16384) ⌝ }
+    ensures { λ r. ⌜ (r ≡ sum (λ j. cond (isPair (now (guards .entry)) i j) 1 0) n) × (r ≤ n) ⌝ }
+{
+    let mut count = 0;
+    let mut j = i + 1;
+    while j < n {
+        count += is_conflict(guards[128 * i + j]);
+        j += 1;
+    }
+    count
+}
+
+// The guard lines that a sheet has.
+fn pair_count(n: usize, guards: &[u8]) -> usize
+    requires { ⌜ (n ≤ 128) × (length (now guards) ≡ 16384) ⌝ }
+    ensures { λ r. ⌜ (r ≡ pairs n (now (guards .entry))) × (r ≤ 16384) ⌝ }
+{
+    let mut count = 0;
+    let mut i = 0;
+    while i < n {
+        count += row_pairs(n, i, guards);
+        i += 1;
+    }
+    count
+}
+
+// "if any of the n starts is not zero"
+fn has_plan(n: usize, starts: &[u16]) -> bool
+    requires { ⌜ (n ≤ 128) × (length (now starts) ≡ 128) ⌝ }
+    ensures { λ r. ⌜ r ≡ hasPlan n (now (starts .entry)) ⌝ }
+{
+    let mut k = 0;
+    while k < n {
+        if starts[k] != 0 {
+            return true;
+        }
+        k += 1;
+    }
+    false
+}
+
+// 7: "a zero among them is then refused".
+fn plan_fault(n: usize, starts: &[u16]) -> Fault
+    requires { ⌜ (n ≤ 128) × (length (now starts) ≡ 128) ⌝ }
+    ensures { λ r. ⌜ r ≡ planFault n (now (starts .entry)) ⌝ }
+{
+    if has_plan(n, starts) {
+        return tables::start_fault(n, starts);
+    }
+    tables::accepted()
+}
+
+// What the writer tests of its tables, in their order: 2, 1 for n, 3, 4, 5, 11, 12, 1 for pairs, 7.
+fn table_fault(n: usize, labels: &[u8], widths: &[u16], guards: &[u8], starts: &[u16]) -> Fault
+    ensures { λ r. ⌜ r ≡ tableFault n (now (labels .entry)) (now (widths .entry)) (now (guards .entry)) (now (starts .entry)) ⌝ }
+{
+    let sizes = sheet_sizes(labels, widths, guards, starts);
+    if sizes.number != 0 {
+        return sizes;
+    }
+    let network = tables::network_fault(n, widths, guards);
+    if network.number != 0 {
+        return network;
+    }
+    let label = label_fault(n, labels);
+    if label.number != 0 {
+        return label;
+    }
+    let twice = twice_fault(n, labels);
+    if twice.number != 0 {
+        return twice;
+    }
+    if rules::PAIRS_MOST < pair_count(n, guards) {
+        return tables::refused(1, 0);
+    }
+    plan_fault(n, starts)
+}
+
+// The length of n lines, of a label and a number of a table each.
+fn paths_length(n: usize, labels: &[u8], table: &[u16]) -> usize
+    requires { ⌜ (n ≤ 128) × (length (now labels) ≡ 1024) × (length (now table) ≡ 128) ⌝ }
+    ensures { λ r. ⌜ (r ≡ length (joinFrom n 0 (pathText (now (labels .entry)) (now (table .entry))))) × (r ≤ 15 * n) ⌝ }
+{
+    let mut total = 0;
+    let mut k = 0;
+    while k < n {
+        total += text::path_line_length(labels, table, k);
+        k += 1;
+    }
+    total
+}
+
+// The length of the line of paths i and j, 0 where they have none.
+fn guard_line_length(labels: &[u8], guards: &[u8], i: usize, j: usize) -> usize
+    requires { ⌜ (i < j) × (j < 128) × (length (now labels) ≡ 1024) × (length (now guards) ≡ 16384) ⌝ }
+    ensures { λ r. ⌜ (r ≡ length (guardText (now (labels .entry)) (now (guards .entry)) i j)) × (r ≤ 24) ⌝ }
+{
+    let guard = guards[128 * i + j];
+    if guard == 255 {
+        return 0;
+    }
+    text::label_length(labels, i)
+        + text::label_length(labels, j)
+        + text::number_length(guard as usize)
+        + 3
+}
+
+// The length of the lines of path i and the later paths.
+fn row_length(n: usize, i: usize, labels: &[u8], guards: &[u8]) -> usize
+    requires { ⌜ (i < n) × (n ≤ 128) × (length (now labels) ≡ 1024) × (length (now guards) ≡ 16384) ⌝ }
+    ensures { λ r. ⌜ (r ≡ length (joinFrom n 0 (guardText (now (labels .entry)) (now (guards .entry)) i))) × (r ≤ 24 * n) ⌝ }
+{
+    let mut total = 0;
+    let mut j = i + 1;
+    while j < n {
+        total += guard_line_length(labels, guards, i, j);
+        j += 1;
+    }
+    total
+}
+
+// The length of all guard lines.
+fn guards_length(n: usize, labels: &[u8], guards: &[u8]) -> usize
+    requires { ⌜ (n ≤ 128) × (length (now labels) ≡ 1024) × (length (now guards) ≡ 16384) ⌝ }
+    ensures { λ r. ⌜ (r ≡ length (guardLines n (now (labels .entry)) (now (guards .entry)))) × (r ≤ 3072 * n) ⌝ }
+{
+    let mut total = 0;
+    let mut i = 0;
+    while i < n {
+        total += row_length(n, i, labels, guards);
+        i += 1;
+    }
+    total
+}
+
+// The length of the starts section, 0 where there is no plan.
+fn starts_length(n: usize, labels: &[u8], starts: &[u16]) -> usize
+    requires { ⌜ (n ≤ 128) × (length (now labels) ≡ 1024) × (length (now starts) ≡ 128) ⌝ }
+    ensures { λ r. ⌜ (r ≡ length (startsText n (now (labels .entry)) (now (starts .entry)))) × (r ≤ 10000) ⌝ }
+{
+    if has_plan(n, starts) {
+        return text::count_line_length(&STARTS, n) + paths_length(n, labels, starts);
+    }
+    0
+}
+
+// The length of the whole sheet.
+fn sheet_length(n: usize, labels: &[u8], widths: &[u16], guards: &[u8], starts: &[u16]) -> usize
+    requires { ⌜ (n ≤ 128) × Sized (now labels) (now widths) (now guards) (now starts) ⌝ }
+    ensures { λ r. ⌜ r ≡ length (sheetText n (now (labels .entry)) (now (widths .entry)) (now (guards .entry)) (now (starts .entry))) ⌝ }
+{
+    let m = pair_count(n, guards);
+    let paths = text::count_line_length(&PATHS, n) + paths_length(n, labels, widths);
+    let pairs = text::count_line_length(&GUARDS, m) + guards_length(n, labels, guards);
+    paths + pairs + starts_length(n, labels, starts)
+}
+
+// Puts n lines, of a label and a number of a table each.
+fn put_paths(text: &mut [u8], place: usize, n: usize, labels: &[u8], table: &[u16]) -> usize
+    requires { ⌜ (n ≤ 128) × (length (now labels) ≡ 1024) × (length (now table) ≡ 128) × (place + length (joinFrom n 0 (pathText (now labels) (now table))) ≤ length (now text)) ⌝ }
+    ensures { λ r. ⌜ Wrote (now (text .entry)) place (joinFrom n 0 (pathText (now (labels .entry)) (now (table .entry)))) r (now (text .exit)) ⌝ }
+{
+    let mut p = place;
+    let mut k = 0;
+    while k < n {
+        p = text::put_path_line(text, p, labels, table, k);
+        k += 1;
+    }
+    p
+}
+
+// Puts the line of paths i and j, "the earlier path first", where they have one.
+fn put_guard_line(
+    text: &mut [u8],
+    place: usize,
+    labels: &[u8],
+    guards: &[u8],
+    i: usize,
+    j: usize,
+) -> usize
+    requires { ⌜ (i < j) × (j < 128) × (length (now labels) ≡ 1024) × (length (now guards) ≡ 16384) × (place + length (guardText (now labels) (now guards) i j) ≤ length (now text)) ⌝ }
+    ensures { λ r. ⌜ Wrote (now (text .entry)) place (guardText (now (labels .entry)) (now (guards .entry)) i j) r (now (text .exit)) ⌝ }
+{
+    let guard = guards[128 * i + j];
+    if guard == 255 {
+        return place;
+    }
+    let p = text::put_label(text, place, labels, i);
+    let q = text::put_word(text, p, b" ");
+    let e = text::put_label(text, q, labels, j);
+    text::put_last(text, e, guard as usize)
+}
+
+// Puts the lines of path i and the later paths: sorted "by first, then second path".
+fn put_row_lines(
+    text: &mut [u8],
+    place: usize,
+    n: usize,
+    i: usize,
+    labels: &[u8],
+    guards: &[u8],
+) -> usize
+    requires { ⌜ (i < n) × (n ≤ 128) × (length (now labels) ≡ 1024) × (length (now guards) ≡ 16384) × (place + length (joinFrom n 0 (guardText (now labels) (now guards) i)) ≤ length (now text)) ⌝ }
+    ensures { λ r. ⌜ Wrote (now (text .entry)) place (joinFrom n 0 (guardText (now (labels .entry)) (now (guards .entry)) i)) r (now (text .exit)) ⌝ }
+{
+    let mut p = place;
+    let mut j = i + 1;
+    while j < n {
+        p = put_guard_line(text, p, labels, guards, i, j);
+        j += 1;
+    }
+    p
+}
+
+// Puts all guard lines.
+fn put_guards(text: &mut [u8], place: usize, n: usize, labels: &[u8], guards: &[u8]) -> usize
+    requires { ⌜ (n ≤ 128) × (length (now labels) ≡ 1024) × (length (now guards) ≡ 16384) × (place + length (guardLines n (now labels) (now guards)) ≤ length (now text)) ⌝ }
+    ensures { λ r. ⌜ Wrote (now (text .entry)) place (guardLines n (now (labels .entry)) (now (guards .entry))) r (now (text .exit)) ⌝ }
+{
+    let mut p = place;
+    let mut i = 0;
+    while i < n {
+        p = put_row_lines(text, p, n, i, labels, guards);
+        i += 1;
+    }
+    p
+}
+
+// Puts the starts section, where there is a plan.
+fn put_starts(text: &mut [u8], place: usize, n: usize, labels: &[u8], starts: &[u16]) -> usize
+    requires { ⌜ (n ≤ 128) × (length (now labels) ≡ 1024) × (length (now starts) ≡ 128) × (place + length (startsText n (now labels) (now starts)) ≤ length (now text)) ⌝ }
+    ensures { λ r. ⌜ Wrote (now (text .entry)) place (startsText n (now (labels .entry)) (now (starts .entry))) r (now (text .exit)) ⌝ }
+{
+    if has_plan(n, starts) {
+        let p = text::put_count_line(text, place, &STARTS, n);
+        return put_paths(text, p, n, labels, starts);
+    }
+    place
+}
+
+// Puts the whole sheet.
+fn put_sheet(
+    text: &mut [u8],
+    n: usize,
+    labels: &[u8],
+    widths: &[u16],
+    guards: &[u8],
+    starts: &[u16],
+) -> usize
+    requires { ⌜ (n ≤ 128) × Sized (now labels) (now widths) (now guards) (now starts) × (length (sheetText n (now labels) (now widths) (now guards) (now starts)) ≤ length (now text)) ⌝ }
+    ensures { λ r. ⌜ Wrote (now (text .entry)) 0 (sheetText n (now (labels .entry)) (now (widths .entry)) (now (guards .entry)) (now (starts .entry))) r (now (text .exit)) ⌝ }
+{
+    let m = pair_count(n, guards);
+    let p = text::put_count_line(text, 0, &PATHS, n);
+    let q = put_paths(text, p, n, labels, widths);
+    let e = text::put_count_line(text, q, &GUARDS, m);
+    let f = put_guards(text, e, n, labels, guards);
+    put_starts(text, f, n, labels, starts)
+}
+
+// Writes a sheet into a lent text. The length is known before the first byte is written: 16 leaves the text unchanged.
+pub fn write(
+    n: usize,
+    labels: &[u8],
+    widths: &[u16],
+    guards: &[u8],
+    starts: &[u16],
+    text: &mut [u8],
+) -> SheetWritten
+    ensures { λ r. ⌜ left r (now (text .exit))
+        ≡ writing n (now (labels .entry)) (now (widths .entry)) (now (guards .entry)) (now (starts .entry)) (now (text .entry)) ⌝ }
+{
+    let fault = table_fault(n, labels, widths, guards, starts);
+    if fault.number != 0 {
+        return SheetWritten {
+            number: fault.number,
+            place: fault.place,
+            length: 0,
+        };
+    }
+    let length = sheet_length(n, labels, widths, guards, starts);
+    if text.len() < length {
+        return SheetWritten {
+            number: 16,
+            place: 0,
+            length: 0,
+        };
+    }
+    put_sheet(text, n, labels, widths, guards, starts);
+    SheetWritten {
+        number: 0,
+        place: 0,
+        length,
+    }
 }

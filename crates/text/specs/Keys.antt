@@ -1,6 +1,6 @@
 -- Eight bytes as one number, so that labels "compared as bytes" are compared by one test. Assumes nothing.
 use Prim.Native.Nat.{ℕ, zero, suc, _+_, _*_, _^_, _≤_, _<_}
-use mathlib.Core.Path.{_≡_, refl, sym, _∙_}
+use mathlib.Core.Path.{_≡_, refl, sym, ap, _∙_}
 use mathlib.Core.Bool.{Bool, true, false}
 use mathlib.Core.List.{List}
 use native.Mathlib.Nat.{pow-le-pow-right, lt-of-lt-of-le}
@@ -8,11 +8,13 @@ use native.Mathlib.Decide.{ℕ-discrete}
 use native.Mathlib.Numerals.{add-one}
 use native.Mathlib.Omega.{arith}
 use lib.ListN.{length, set}
-use lib.Dec.{eqb, lit<}
+use lib.Dec.{ltb, eqb, lit<}
 use borrow.Author.Tests.{eq-eqb, ne-eqb}
 use Rattle.rules.specs.Tables.{at, labelByte}
-use Rattle.rules.specs.Scan.{first}
+use Rattle.rules.specs.Scan.{first, found}
 use Rattle.rules.specs.Sheet.{isRow, find, putRow}
+use Rattle.rules.specs.Writing.{labelOf, badLabel, labelTwice}
+use Rattle.laws.specs.Writes.{good-label}
 use Rattle.laws.specs.Count.{each-suc}
 use Rattle.laws.specs.Tables.{at-same, at-other}
 use Rattle.laws.specs.Rows.{first-same, row-same, row-bytes, put-in, put-before}
@@ -87,14 +89,28 @@ key-of f g a b e h k = record {
   bytes = λ j l. omega (arith, h j l, k .bytes j l);
 }
 
+pub keyed-next : (labels keys : List ℕ) (k key : ℕ) → Keyed labels keys k → Key (labelByte labels k) key → k < length keys → Keyed labels (set keys k key) (k + 1)
+keyed-next labels keys k key h q b i l = go (ℕ-discrete i k)
+  where
+    go : Dec (i ≡ k) → Key (labelByte labels i) (at (set keys k key) i)
+    go (yes e) = rw e (key-of (labelByte labels k) (labelByte labels k) (at (set keys k key) k) key (at-same keys k key b) (λ j g. refl) q)
+    go (no ne) = key-of (labelByte labels i) (labelByte labels i) (at (set keys k key) i) (at keys i) (at-other keys k key i ne) (λ j g. refl) (h i (omega arith))
+
 pub keyed-more : (labels keys w : List ℕ) (k key : ℕ) → Keyed labels keys k → Key (at w) key → 8 * k + 8 ≤ length labels → k < length keys
     → Keyed (putRow labels k w) (set keys k key) (k + 1)
-keyed-more labels keys w k key h q a b i l = go (ℕ-discrete i k)
-  where
-    go : Dec (i ≡ k) → Key (labelByte (putRow labels k w) i) (at (set keys k key) i)
-    go (yes e) = rw e (key-of (labelByte (putRow labels k w) k) (at w) (at (set keys k key) k) key (at-same keys k key b) (λ j g. put-in labels w k j a g) q)
-    go (no ne) = key-of (labelByte (putRow labels k w) i) (labelByte labels i) (at (set keys k key) i) (at keys i) (at-other keys k key i ne)
-        (λ j g. put-before labels w k (8 * i + j) (omega arith)) (h i (omega arith))
+keyed-more labels keys w k key h q a b =
+    keyed-next (putRow labels k w) keys k key
+    (λ i l. key-of (labelByte (putRow labels k w) i) (labelByte labels i) (at keys i) (at keys i) refl (λ j g. put-before labels w k (8 * i + j) (omega arith)) (h i l))
+    (key-of (labelByte (putRow labels k w) k) (at w) key key refl (λ j g. put-in labels w k j a g) q) b
 
 pub keyed-none : (labels keys : List ℕ) → Keyed labels keys 0
 keyed-none labels keys i l = absurd (omega arith)
+
+-- a label that is not refused is that of an earlier path exactly where its key is among theirs
+pub twice-key : (labels keys : List ℕ) (k key : ℕ) → badLabel labels k ≡ false → Keyed labels keys k → Key (labelByte labels k) key
+    → labelTwice labels k ≡ ltb (first (λ i. eqb (at keys i) key) k) k
+unfolding labelTwice found find
+twice-key labels keys k key g h q =
+    let w = labelOf labels k in
+    let same = row-bytes labels w k (good-label labels k g .1) in
+    ap (λ (i : ℕ). ltb i k) (find-key labels keys w k key h (key-of (at w) (labelByte labels k) key key refl (λ j l. sym (same j l)) q))

@@ -1,14 +1,16 @@
 // Fields and lines of a sheet, read and written. A text is its bytes, and a place in it stands for the text from there on.
 ghost use mathlib.Core.Path.{_≡_};
+ghost use mathlib.Core.List.{_++_};
 ghost use Prim.Native.Nat.{_+_, _-_, _*_, _≤_, _<_};
 ghost use lib.ListN.{length, take, drop, set};
 ghost use lib.Dec.{eqb};
 ghost use Rattle.rules.specs.Tables.{at, labelByte};
 ghost use Rattle.rules.specs.Scan.{first};
-ghost use Rattle.rules.specs.Text.{run, isDigit, valueFrom};
+ghost use Rattle.rules.specs.Text.{run, isDigit, valueFrom, numeral, space, lineFeed};
 ghost use Rattle.rules.specs.Sheet.{putRow};
+ghost use Rattle.rules.specs.Writing.{labelOf, badLabel, countText, pathText};
 ghost use Rattle.text.specs.Keys.{Key};
-ghost use Rattle.text.specs.Says.{classOf, part, WordIs, LabelIs, NumberIs, CountIs, PathLineIs};
+ghost use Rattle.text.specs.Says.{classOf, part, WordIs, LabelIs, NumberIs, CountIs, PathLineIs, Wrote};
 
 // The place after what was read, or nothing of the kind stands there.
 pub enum Next {
@@ -249,4 +251,154 @@ pub fn put_row(labels: &mut [u8], k: usize, text: &[u8], place: usize, end: usiz
         labels[8 * k + j] = label_byte(text, place, end, j);
         j += 1;
     }
+}
+
+// How many bytes path k's label has.
+pub fn label_length(labels: &[u8], k: usize) -> usize
+    requires { ⌜ 8 * k + 8 ≤ length (now labels) ⌝ }
+    ensures { λ r. ⌜ r ≡ length (labelOf (now (labels .entry)) k) ⌝ }
+{
+    let mut j = 0;
+    while j < 8 {
+        if !in_class(labels[8 * k + j], true) {
+            return j;
+        }
+        j += 1;
+    }
+    j
+}
+
+// 11, in the writer: path k's row is no label "filled at the end with zero bytes".
+pub fn bad_label(labels: &[u8], k: usize) -> bool
+    requires { ⌜ 8 * k + 8 ≤ length (now labels) ⌝ }
+    ensures { λ r. ⌜ r ≡ badLabel (now (labels .entry)) k ⌝ }
+{
+    let mut j = label_length(labels, k);
+    if j == 0 {
+        return true;
+    }
+    while j < 8 {
+        if labels[8 * k + j] != 0 {
+            return true;
+        }
+        j += 1;
+    }
+    false
+}
+
+// How many digits a number has.
+pub fn number_length(v: usize) -> usize
+    requires { ⌜ v < 100000 ⌝ }
+    ensures { λ r. ⌜ r ≡ length (numeral v) ⌝ }
+{
+    if v < 10 {
+        return 1;
+    }
+    if v < 100 {
+        return 2;
+    }
+    if v < 1000 {
+        return 3;
+    }
+    if v < 10000 {
+        return 4;
+    }
+    5
+}
+
+pub fn count_line_length(w: &[u8], m: usize) -> usize
+    requires { ⌜ (m < 100000) × (length (now w) ≤ 100) ⌝ }
+    ensures { λ r. ⌜ r ≡ length (countText (now (w .entry)) m) ⌝ }
+{
+    w.len() + number_length(m) + 2
+}
+
+pub fn path_line_length(labels: &[u8], table: &[u16], k: usize) -> usize
+    requires { ⌜ (8 * k + 8 ≤ length (now labels)) × (k < length (now table)) ⌝ }
+    ensures { λ r. ⌜ (r ≡ length (pathText (now (labels .entry)) (now (table .entry)) k)) × (r ≤ 15) ⌝ }
+{
+    let v = table[k] as usize;
+    label_length(labels, k) + number_length(v) + 2
+}
+
+// Puts one byte into a text, and answers the place after it.
+fn put(text: &mut [u8], place: usize, b: u8) -> usize
+    requires { ⌜ place < length (now text) ⌝ }
+    ensures { λ r. ⌜ (r ≡ place + 1) × (now (text .exit) ≡ set (now (text .entry)) place b) ⌝ }
+{
+    text[place] = b;
+    place + 1
+}
+
+// Puts fixed bytes.
+pub fn put_word(text: &mut [u8], place: usize, w: &[u8]) -> usize
+    requires { ⌜ place + length (now w) ≤ length (now text) ⌝ }
+    ensures { λ r. ⌜ Wrote (now (text .entry)) place (now (w .entry)) r (now (text .exit)) ⌝ }
+{
+    let mut p = place;
+    let mut j = 0;
+    while j < w.len() {
+        p = put(text, p, w[j]);
+        j += 1;
+    }
+    p
+}
+
+// Puts a number, in as many digits as it has.
+pub fn put_number(text: &mut [u8], place: usize, v: usize) -> usize
+    requires { ⌜ (v < 100000) × (place + length (numeral v) ≤ length (now text)) ⌝ }
+    ensures { λ r. ⌜ Wrote (now (text .entry)) place (numeral v) r (now (text .exit)) ⌝ }
+{
+    if v < 10 {
+        return put(text, place, 48 + v as u8);
+    }
+    let p = put_number(text, place, v / 10);
+    put(text, p, 48 + (v % 10) as u8)
+}
+
+// Puts path k's label.
+pub fn put_label(text: &mut [u8], place: usize, labels: &[u8], k: usize) -> usize
+    requires { ⌜ (8 * k + 8 ≤ length (now labels)) × (place + length (labelOf (now labels) k) ≤ length (now text)) ⌝ }
+    ensures { λ r. ⌜ Wrote (now (text .entry)) place (labelOf (now (labels .entry)) k) r (now (text .exit)) ⌝ }
+{
+    let mut p = place;
+    let mut j = 0;
+    while j < 8 {
+        let b = labels[8 * k + j];
+        if !in_class(b, true) {
+            return p;
+        }
+        p = put(text, p, b);
+        j += 1;
+    }
+    p
+}
+
+// Puts a line's last field: a space, a number and the line feed.
+pub fn put_last(text: &mut [u8], place: usize, v: usize) -> usize
+    requires { ⌜ (v < 100000) × (place + length (numeral v) + 2 ≤ length (now text)) ⌝ }
+    ensures { λ r. ⌜ Wrote (now (text .entry)) place (space ++ (numeral v ++ lineFeed)) r (now (text .exit)) ⌝ }
+{
+    let p = put_word(text, place, b" ");
+    let q = put_number(text, p, v);
+    put_word(text, q, b"\n")
+}
+
+// Puts a section's word and its count.
+pub fn put_count_line(text: &mut [u8], place: usize, w: &[u8], m: usize) -> usize
+    requires { ⌜ (m < 100000) × (place + length (countText (now w) m) ≤ length (now text)) ⌝ }
+    ensures { λ r. ⌜ Wrote (now (text .entry)) place (countText (now (w .entry)) m) r (now (text .exit)) ⌝ }
+{
+    let p = put_word(text, place, w);
+    put_last(text, p, m)
+}
+
+// Puts path k's line: its label, and its number of a table.
+pub fn put_path_line(text: &mut [u8], place: usize, labels: &[u8], table: &[u16], k: usize) -> usize
+    requires { ⌜ (8 * k + 8 ≤ length (now labels)) × (k < length (now table)) × (place + length (pathText (now labels) (now table) k) ≤ length (now text)) ⌝ }
+    ensures { λ r. ⌜ Wrote (now (text .entry)) place (pathText (now (labels .entry)) (now (table .entry)) k) r (now (text .exit)) ⌝ }
+{
+    let v = table[k] as usize;
+    let p = put_label(text, place, labels, k);
+    put_last(text, p, v)
 }
