@@ -14,32 +14,18 @@ ghost use Rattle.rules.specs.Calls.{left, readOutcome, reading, writing};
 ghost use Rattle.text.specs.Says.{Wrote};
 ghost use Rattle.sheet.specs.Written.{Sized, guardLines, planFault, tableFault};
 ghost use Rattle.text.specs.Keys.{Keyed};
-ghost use Rattle.sheet.specs.Says.{GuardLineIs, StepIs, StepWithin, PathStepIs, SectionIs, PartWithin, PathsAre, WholeIs};
+ghost use Rattle.sheet.specs.Says.{SectionIs, PartWithin, PathsAre, WholeIs};
+use lines::Step;
 use rules::Fault;
 use rules::SheetRead;
 use rules::SheetWritten;
 use text::Amount;
-use text::Next;
-use text::PathLine;
-
 // "The section words are compared byte by byte, lower case": the reader compares these, and the writer writes them.
 const PATHS: [u8; 5] = *b"paths";
 
 const GUARDS: [u8; 6] = *b"guards";
 
 const STARTS: [u8; 6] = *b"starts";
-
-// A guard's line: the places after its first label and at and after its second, its guard, and the place after the line.
-pub enum GuardLine {
-    Pair(usize, usize, usize, usize, usize),
-    Unpaired,
-}
-
-// The place after a line that is right, or the number of its refusal.
-pub enum Step {
-    On(usize),
-    Refused(usize),
-}
 
 // The place after a section that is right, or the number of a refusal and its line.
 pub enum Part {
@@ -51,38 +37,6 @@ pub enum Part {
 pub enum Whole {
     Sheet(usize),
     Stop(usize, usize),
-}
-
-// Path k's line: 11, 12 label twice, 3 width not 1 to 64.
-fn path_step(
-    text: &[u8],
-    place: usize,
-    k: usize,
-    labels: &mut [u8],
-    widths: &mut [u16],
-    keys: &mut [usize],
-) -> Step
-    requires { ⌜ (place ≤ length (now text)) × (8 * k + 8 ≤ length (now labels)) × (k < length (now widths)) × (k < length (now keys)) × Keyed (now labels) (now keys) k ⌝ }
-    ensures { λ r. ⌜ PathStepIs (now (text .entry)) (now (labels .exit)) (now (widths .exit)) (now (keys .exit)) k (pathStep k (now (labels .entry), now (widths .entry)) (drop place (now (text .entry)))) r ⌝ }
-{
-    let PathLine::Fields(e, v, next) = text::path_line(text, place) else {
-        return Step::Refused(11);
-    };
-    let key = text::label_key(text, place, e);
-    let i = text::find(keys, k, key);
-    if i < k {
-        return Step::Refused(12);
-    }
-    if v < 1 {
-        return Step::Refused(3);
-    }
-    if 64 < v {
-        return Step::Refused(3);
-    }
-    text::put_row(labels, k, text, place, e);
-    keys[k] = key;
-    widths[k] = v as u16;
-    Step::On(next)
 }
 
 // The lines of n paths.
@@ -100,7 +54,7 @@ fn paths(
     let mut k = 0;
     let mut i = place;
     while k < n {
-        match path_step(text, i, k, labels, widths, keys) {
+        match lines::path_step(text, i, k, labels, widths, keys) {
             Step::On(next) => {
                 i = next;
             }
@@ -113,55 +67,6 @@ fn paths(
     Part::Over(i)
 }
 
-fn guard_line(text: &[u8], place: usize) -> GuardLine
-    requires { ⌜ place ≤ length (now text) ⌝ }
-    ensures { λ r. ⌜ GuardLineIs (now (text .entry)) place r ⌝ }
-{
-    let Next::At(e) = text::label(text, place) else {
-        return GuardLine::Unpaired;
-    };
-    let Next::At(f) = text::word(text, e, b" ") else {
-        return GuardLine::Unpaired;
-    };
-    let PathLine::Fields(e2, g, h) = text::path_line(text, f) else {
-        return GuardLine::Unpaired;
-    };
-    GuardLine::Pair(e, f, e2, g, h)
-}
-
-// A guard's line, over the keys of n labels: 11, 13 label unknown or paired with itself, 14 pair given twice, 4 guard over 32.
-fn guard_step(text: &[u8], place: usize, n: usize, keys: &[usize], guards: &mut [u8]) -> Step
-    requires { ⌜ (place ≤ length (now text)) × (n ≤ 128) × (n ≤ length (now keys)) × (length (now guards) ≡ 16384) ⌝ }
-    ensures { λ r. ⌜ StepWithin (now (text .entry)) r × ((labels : List ℕ) → Keyed labels (now (keys .entry)) n
-        → StepIs (now (text .entry)) (now (guards .exit)) (guardStep n labels 0 (now (guards .entry)) (drop place (now (text .entry)))) r) ⌝ }
-{
-    let GuardLine::Pair(e, f, e2, g, next) = guard_line(text, place) else {
-        return Step::Refused(11);
-    };
-    let a = text::label_key(text, place, e);
-    let b = text::label_key(text, f, e2);
-    let i = text::find(keys, n, a);
-    let j = text::find(keys, n, b);
-    if n <= i {
-        return Step::Refused(13);
-    }
-    if n <= j {
-        return Step::Refused(13);
-    }
-    if i == j {
-        return Step::Refused(13);
-    }
-    if guards[128 * i + j] != 255 {
-        return Step::Refused(14);
-    }
-    if 32 < g {
-        return Step::Refused(4);
-    }
-    guards[128 * i + j] = g as u8;
-    guards[128 * j + i] = g as u8;
-    Step::On(next)
-}
-
 // The lines of m guards.
 fn guards(text: &[u8], place: usize, n: usize, m: usize, keys: &[usize], guards: &mut [u8]) -> Part
     requires { ⌜ (place ≤ length (now text)) × (n ≤ 128) × (n ≤ length (now keys)) × (length (now guards) ≡ 16384) × (m ≤ 2000) ⌝ }
@@ -171,7 +76,7 @@ fn guards(text: &[u8], place: usize, n: usize, m: usize, keys: &[usize], guards:
     let mut k = 0;
     let mut i = place;
     while k < m {
-        match guard_step(text, i, n, keys, guards) {
+        match lines::guard_step(text, i, n, keys, guards) {
             Step::On(next) => {
                 i = next;
             }
@@ -182,36 +87,6 @@ fn guards(text: &[u8], place: usize, n: usize, m: usize, keys: &[usize], guards:
         k += 1;
     }
     Part::Over(i)
-}
-
-// Path k's start, over the keys of n labels: 11, 13 label not the path's, 7 start not 1 to 16,384.
-fn start_step(
-    text: &[u8],
-    place: usize,
-    k: usize,
-    n: usize,
-    keys: &[usize],
-    starts: &mut [u16],
-) -> Step
-    requires { ⌜ (place ≤ length (now text)) × (k < n) × (n ≤ length (now keys)) × (n ≤ length (now starts)) ⌝ }
-    ensures { λ r. ⌜ StepWithin (now (text .entry)) r × ((labels : List ℕ) → Keyed labels (now (keys .entry)) n
-        → StepIs (now (text .entry)) (now (starts .exit)) (startStep labels k (now (starts .entry)) (drop place (now (text .entry)))) r) ⌝ }
-{
-    let PathLine::Fields(e, v, next) = text::path_line(text, place) else {
-        return Step::Refused(11);
-    };
-    let key = text::label_key(text, place, e);
-    if keys[k] != key {
-        return Step::Refused(13);
-    }
-    if v < 1 {
-        return Step::Refused(7);
-    }
-    if 16384 < v {
-        return Step::Refused(7);
-    }
-    starts[k] = v as u16;
-    Step::On(next)
 }
 
 // The lines of n starts, of which the first is the line given.
@@ -230,7 +105,7 @@ fn starts(
     let mut k = 0;
     let mut i = place;
     while k < n {
-        match start_step(text, i, k, n, keys, starts) {
+        match lines::start_step(text, i, k, n, keys, starts) {
             Step::On(next) => {
                 i = next;
             }
@@ -565,21 +440,6 @@ fn paths_length(n: usize, labels: &[u8], table: &[u16]) -> usize
     total
 }
 
-// The length of the line of paths i and j, 0 where they have none.
-fn guard_line_length(labels: &[u8], guards: &[u8], i: usize, j: usize) -> usize
-    requires { ⌜ (i < j) × (j < 128) × (length (now labels) ≡ 1024) × (length (now guards) ≡ 16384) ⌝ }
-    ensures { λ r. ⌜ (r ≡ length (guardText (now (labels .entry)) (now (guards .entry)) i j)) × (r ≤ 24) ⌝ }
-{
-    let guard = guards[128 * i + j];
-    if guard == 255 {
-        return 0;
-    }
-    text::label_length(labels, i)
-        + text::label_length(labels, j)
-        + text::number_length(guard as usize)
-        + 3
-}
-
 // The length of the lines of path i and the later paths.
 fn row_length(n: usize, i: usize, labels: &[u8], guards: &[u8]) -> usize
     requires { ⌜ (i < n) × (n ≤ 128) × (length (now labels) ≡ 1024) × (length (now guards) ≡ 16384) ⌝ }
@@ -588,7 +448,7 @@ fn row_length(n: usize, i: usize, labels: &[u8], guards: &[u8]) -> usize
     let mut total = 0;
     let mut j = i + 1;
     while j < n {
-        total += guard_line_length(labels, guards, i, j);
+        total += lines::guard_line_length(labels, guards, i, j);
         j += 1;
     }
     total
@@ -644,28 +504,6 @@ fn put_paths(text: &mut [u8], place: usize, n: usize, labels: &[u8], table: &[u1
     p
 }
 
-// Puts the line of paths i and j, "the earlier path first", where they have one.
-fn put_guard_line(
-    text: &mut [u8],
-    place: usize,
-    labels: &[u8],
-    guards: &[u8],
-    i: usize,
-    j: usize,
-) -> usize
-    requires { ⌜ (i < j) × (j < 128) × (length (now labels) ≡ 1024) × (length (now guards) ≡ 16384) × (place + length (guardText (now labels) (now guards) i j) ≤ length (now text)) ⌝ }
-    ensures { λ r. ⌜ Wrote (now (text .entry)) place (guardText (now (labels .entry)) (now (guards .entry)) i j) r (now (text .exit)) ⌝ }
-{
-    let guard = guards[128 * i + j];
-    if guard == 255 {
-        return place;
-    }
-    let p = text::put_label(text, place, labels, i);
-    let q = text::put_word(text, p, b" ");
-    let e = text::put_label(text, q, labels, j);
-    text::put_last(text, e, guard as usize)
-}
-
 // Puts the lines of path i and the later paths: sorted "by first, then second path".
 fn put_row_lines(
     text: &mut [u8],
@@ -681,7 +519,7 @@ fn put_row_lines(
     let mut p = place;
     let mut j = i + 1;
     while j < n {
-        p = put_guard_line(text, p, labels, guards, i, j);
+        p = lines::put_guard_line(text, p, labels, guards, i, j);
         j += 1;
     }
     p

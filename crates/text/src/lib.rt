@@ -182,10 +182,10 @@ pub fn path_line(text: &[u8], place: usize) -> PathLine
     let Amount::Is(v, g) = number(text, f) else {
         return PathLine::Malformed;
     };
-    let Next::At(h) = word(text, g, b"\n") else {
+    let Next::At(next) = word(text, g, b"\n") else {
         return PathLine::Malformed;
     };
-    PathLine::Fields(e, v, h)
+    PathLine::Fields(e, v, next)
 }
 
 // Byte j of the label between two places: "filled at the end with zero bytes".
@@ -204,8 +204,8 @@ pub fn label_key(text: &[u8], place: usize, end: usize) -> usize
     let mut key: usize = 0;
     let mut j = 0;
     while j < 8 {
-        let b = label_byte(text, place, end, j);
-        key = 256 * key + b as usize;
+        let byte = label_byte(text, place, end, j);
+        key = 256 * key + byte as usize;
         j += 1;
     }
     key

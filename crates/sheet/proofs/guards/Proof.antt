@@ -9,8 +9,8 @@ use denote.Ref.{now}
 use Rattle.rules.specs.Tables.{at}
 use Rattle.rules.specs.Sheet.{lines, guardStep}
 use Rattle.text.specs.Keys.{Keyed}
-use Rattle.sheet.specs.Says.{StepIs, StepWithin}
-use Rattle.sheet.specs.declared.Step.the-variants.{On, Refused}
+use Rattle.lines.specs.Says.{StepIs, StepWithin}
+use Rattle.lines.specs.declared.Step.the-variants.{On, Refused}
 use Rattle.laws.specs.Lines.{lines-step, lines-halt, lines-end, guard-any}
 use Rattle.sheet.proofs.guards.Statement.{statement}
 use Rattle.sheet.proofs.guards.Tie as tie

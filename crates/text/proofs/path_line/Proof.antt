@@ -18,8 +18,8 @@ at-f c = rw (c .f .given .1) at (c .before .before .word .ensures)
 at-v : (c : tie.After-v) → NumberIs (now (c .before .before .before .before .before .before .before .before .before .before .before .before .before .args .text)) (c .before .before .before .before .f .given .0 .0) (Is (c .v .given .0 .0) (c .v .given .0 .1 .0))
 at-v c = rw (c .v .given .1) at (c .before .before .number .ensures)
 
-at-h : (c : tie.After-h) → WordIs (now (c .before .before .before .before .before .before .before .before .before .before .before .before .before .before .before .before .before .before .args .text)) (c .before .before .before .before .before .v .given .0 .1 .0) (10 ∷ []) (At (c .h .given .0 .0))
-at-h c = rw (c .h .given .1) at (c .before .before .word2 .ensures)
+at-next : (c : tie.After-next) → WordIs (now (c .before .before .before .before .before .before .before .before .before .before .before .before .before .before .before .before .before .before .args .text)) (c .before .before .before .before .before .v .given .0 .1 .0) (10 ∷ []) (At (c .next .given .0 .0))
+at-next c = rw (c .next .given .1) at (c .before .before .word2 .ensures)
 
 label-requires : tie.Need-label-requires
 label-requires c κs = search needs
@@ -78,8 +78,8 @@ slice-aggregate-word-2 c = search needs
 word-requires-2 : tie.Need-word-requires-2
 word-requires-2 c κs = at-v (c .before .before) .2
 
-enum-known-h : tie.Need-enum-known-h
-enum-known-h c = search needs
+enum-known-next : tie.Need-enum-known-next
+enum-known-next c = search needs
 
 enum-told-4 : tie.Need-enum-told-4
 enum-told-4 c = search needs
@@ -99,7 +99,7 @@ returns-5 c =
     let e = at-e (c .before .before .before .before .before .before .before .before .before .before .before .before .before .before .before) in
     let f = at-f (c .before .before .before .before .before .before .before .before .before .before) in
     let v = at-v (c .before .before .before .before .before .before) in
-    let h = at-h (c .before) in
+    let h = at-next (c .before) in
     (rw (e .0, f .0, v .0, h .0), e .1, e .3, h .1)
 
 pub path-line-spec : {M : Type 1} → statement M
@@ -121,7 +121,7 @@ path-line-spec =
     returns-3
     slice-aggregate-word-2
     word-requires-2
-    enum-known-h
+    enum-known-next
     enum-told-4
     returns-4
     returns-5)

@@ -9,11 +9,11 @@ use Rattle.rules.specs.Tables.{at}
 use Rattle.rules.specs.Sheet.{find}
 use Rattle.text.specs.Keys.{Keyed, find-key}
 use Rattle.text.specs.Says.{part}
-use Rattle.sheet.specs.Says.{GuardLineIs}
-use Rattle.sheet.specs.declared.GuardLine.the-variants.{Pair, Unpaired}
+use Rattle.lines.specs.Says.{GuardLineIs}
+use Rattle.lines.specs.declared.GuardLine.the-variants.{Pair, Unpaired}
 use Rattle.laws.specs.Lines.{guard-ill, guard-first, guard-second, guard-self, guard-twice, guard-over, guard-fine}
-use Rattle.sheet.proofs.guard_step.Statement.{statement}
-use Rattle.sheet.proofs.guard_step.Tie as tie
+use Rattle.lines.proofs.guard_step.Statement.{statement}
+use Rattle.lines.proofs.guard_step.Tie as tie
 
 at-e : (c : tie.After-e) → GuardLineIs (now (c .before .before .before .before .before .before .args .text)) (c .before .before .before .before .before .before .args .place) (Pair (c .e .given .0 .0) (c .e .given .0 .1 .0) (c .e .given .0 .1 .1 .0) (c .e .given .0 .1 .1 .1 .0) (c .e .given .0 .1 .1 .1 .1 .0))
 at-e c = rw (c .e .given .1) at (c .before .before .guard-line .ensures)
@@ -87,14 +87,14 @@ returns-4 c =
           guard-self (a .n) labels (now (a .guards)) (drop (a .place) s) (part s (a .place) (g .0)) (part s (g .1 .0) (g .1 .1 .0)) (g .1 .1 .1 .0) (drop (g .1 .1 .1 .1 .0) s) (at-e (c .before .before .before .before .before .before .before .before) .0) (c .before .before .before .before .find .result) (c .before .before .before .find2 .result) (first-found (c .before .before .before) labels keyed) (second-found (c .before .before .before) labels keyed) (c .before .before .if1 .left) (c .before .if2 .left) (c .if3 .taken),
     )
 
-mul-if4 : tie.Need-mul-if4
-mul-if4 c = search needs
+mul-given : tie.Need-mul-given
+mul-given c = search needs
 
-add-if4 : tie.Need-add-if4
-add-if4 c = search needs
+add-given : tie.Need-add-given
+add-given c = search needs
 
-slice-read-if4 : tie.Need-slice-read-if4
-slice-read-if4 c = search needs
+slice-read-given : tie.Need-slice-read-given
+slice-read-given c = search needs
 
 returns-5 : tie.Need-returns-5
 returns-5 c =
@@ -168,9 +168,9 @@ guard-step-spec =
     returns-2
     returns-3
     returns-4
-    mul-if4
-    add-if4
-    slice-read-if4
+    mul-given
+    add-given
+    slice-read-given
     returns-5
     returns-6
     cast-guards

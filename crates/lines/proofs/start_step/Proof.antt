@@ -13,8 +13,8 @@ use Rattle.text.specs.Keys.{Keyed, row-key}
 use Rattle.text.specs.Says.{part, PathLineIs}
 use Rattle.text.specs.declared.PathLine.the-variants.{Fields, Malformed}
 use Rattle.laws.specs.Lines.{start-ill, start-other, start-low, start-high, start-fine}
-use Rattle.sheet.proofs.start_step.Statement.{statement}
-use Rattle.sheet.proofs.start_step.Tie as tie
+use Rattle.lines.proofs.start_step.Statement.{statement}
+use Rattle.lines.proofs.start_step.Tie as tie
 
 at-e : (c : tie.After-e) → PathLineIs (now (c .before .before .before .before .before .before .args .text)) (c .before .before .before .before .before .before .args .place) (Fields (c .e .given .0 .0) (c .e .given .0 .1 .0) (c .e .given .0 .1 .1 .0))
 at-e c = rw (c .e .given .1) at (c .before .before .path-line .ensures)

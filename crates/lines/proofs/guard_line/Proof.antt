@@ -6,8 +6,8 @@ use Rattle.rules.specs.Sheet.{guardLine}
 use Rattle.text.specs.Says.{WordIs, LabelIs, PathLineIs}
 use Rattle.text.specs.declared.Next.the-variants.{At, Missing}
 use Rattle.text.specs.declared.PathLine.the-variants.{Fields, Malformed}
-use Rattle.sheet.proofs.guard_line.Statement.{statement}
-use Rattle.sheet.proofs.guard_line.Tie as tie
+use Rattle.lines.proofs.guard_line.Statement.{statement}
+use Rattle.lines.proofs.guard_line.Tie as tie
 
 at-e : (c : tie.After-e) → LabelIs (now (c .before .before .before .before .args .text)) (c .before .before .before .before .args .place) (At (c .e .given .0 .0))
 at-e c = rw (c .e .given .1) at (c .before .before .label .ensures)

@@ -11,8 +11,8 @@ use Rattle.text.specs.Keys.{find-key, keyed-more}
 use Rattle.text.specs.Says.{part, PathLineIs}
 use Rattle.text.specs.declared.PathLine.the-variants.{Fields, Malformed}
 use Rattle.laws.specs.Lines.{path-ill, path-twice, path-thin, path-wide, path-fine}
-use Rattle.sheet.proofs.path_step.Statement.{statement}
-use Rattle.sheet.proofs.path_step.Tie as tie
+use Rattle.lines.proofs.path_step.Statement.{statement}
+use Rattle.lines.proofs.path_step.Tie as tie
 
 at-e : (c : tie.After-e) → PathLineIs (now (c .before .before .before .before .before .before .before .args .text)) (c .before .before .before .before .before .before .before .args .place) (Fields (c .e .given .0 .0) (c .e .given .0 .1 .0) (c .e .given .0 .1 .1 .0))
 at-e c = rw (c .e .given .1) at (c .before .before .path-line .ensures)

@@ -9,8 +9,8 @@ use Rattle.rules.specs.Tables.{at, cell}
 use Rattle.rules.specs.Text.{numeral, space, lineFeed}
 use Rattle.rules.specs.Writing.{labelOf, guardText}
 use Rattle.laws.specs.Writes.{pairText, pair-length, guard-none, guard-some, pair-apart, pair-joined, both-pieces}
-use Rattle.sheet.proofs.put_guard_line.Statement.{statement}
-use Rattle.sheet.proofs.put_guard_line.Tie as tie
+use Rattle.lines.proofs.put_guard_line.Statement.{statement}
+use Rattle.lines.proofs.put_guard_line.Tie as tie
 
 its-text : (c : tie.Else1) → guardText (now (c .before .before .before .before .before .args .labels)) (now (c .before .before .before .before .before .args .guards)) (c .before .before .before .before .before .args .i) (c .before .before .before .before .before .args .j) ≡ pairText (now (c .before .before .before .before .before .args .labels)) (now (c .before .before .before .before .before .args .guards)) (c .before .before .before .before .before .args .i) (c .before .before .before .before .before .args .j)
 its-text c =

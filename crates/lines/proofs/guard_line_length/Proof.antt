@@ -6,8 +6,8 @@ use lib.ListN.{length}
 use denote.Ref.{now}
 use Rattle.rules.specs.Tables.{at, cell}
 use Rattle.laws.specs.Writes.{label-short, digits-few, pair-length, guard-none, guard-some, pair-apart, pair-joined}
-use Rattle.sheet.proofs.guard_line_length.Statement.{statement}
-use Rattle.sheet.proofs.guard_line_length.Tie as tie
+use Rattle.lines.proofs.guard_line_length.Statement.{statement}
+use Rattle.lines.proofs.guard_line_length.Tie as tie
 
 mul-guard : tie.Need-mul-guard
 mul-guard c = search needs
