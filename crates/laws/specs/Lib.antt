@@ -16,6 +16,9 @@ pub mod Texts
 pub mod Rows
 pub mod Lines
 pub mod Writes
+pub mod Kept
+pub mod RoundTrip
+pub mod GuardTrip
 pub mod Updates
 pub mod Marks
 pub mod Accepted

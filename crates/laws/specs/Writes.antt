@@ -2,13 +2,13 @@
 use Prim.Native.Nat.{ℕ, zero, suc, _+_, _-_, _*_, _/_, _%_, _≤_, _<_}
 use mathlib.Core.Path.{_≡_, refl, sym, ap, _∙_}
 use mathlib.Core.Logic.{_≢_}
-use mathlib.Core.Bool.{Bool, true, false, cond, not, _||_, true≢false}
+use mathlib.Core.Bool.{Bool, true, false, cond, not, _||_, _&&_, true≢false}
 use mathlib.Core.List.{List, [], _∷_, _++_}
 use lib.ListN.{length, set, take, drop, length-append, length-take, List·getD-eq-default}
 use lib.Seq.{sets, getD-take, getD-drop}
 use lib.Dec.{ltb, eqb}
 use native.Mathlib.Decide.{decLt}
-use borrow.Author.Tests.{eq-eqb, ne-eqb, eqb-false, lt-ltb, le-ltb}
+use borrow.Author.Tests.{eq-eqb, ne-eqb, eqb-false, lt-ltb, le-ltb, ltb-true, ltb-false}
 use native.Mathlib.Nat.{add-zero}
 use native.Mathlib.Numerals.{add-one}
 use native.Mathlib.Omega.{arith}
@@ -215,6 +215,18 @@ pair-joined guards i j l e = rw (lt-ltb i j l, lt-ltb (at guards (cell i j)) 255
 pub pair-test : (guards : List ℕ) (i j : ℕ) → i < j → isPair guards i j ≡ ltb (at guards (cell i j)) 255
 unfolding isPair
 pair-test guards i j l = rw (lt-ltb i j l)
+
+pub pair-order : (guards : List ℕ) (i j : ℕ) → isPair guards i j ≡ true → (i < j) × (at guards (cell i j) < 255)
+unfolding isPair
+pair-order guards i j = go (ltb i j) refl (ltb (at guards (cell i j)) 255) refl
+  where
+    go : (a : Bool) → ltb i j ≡ a → (b : Bool) → ltb (at guards (cell i j)) 255 ≡ b → (a && b) ≡ true → (i < j) × (at guards (cell i j) < 255)
+    go true p true q e = (ltb-true i j p, ltb-true (at guards (cell i j)) 255 q)
+    go true p false q e = absurd (true≢false (sym e))
+    go false p b q e = absurd (true≢false (sym e))
+
+pub pair-none : (guards : List ℕ) (i j : ℕ) → isPair guards i j ≡ false → i < j → 255 ≤ at guards (cell i j)
+pair-none guards i j e l = ltb-false (at guards (cell i j)) 255 (sym (pair-test guards i j l) ∙ e)
 
 -- path i's lines begin after path i
 pub row-skip : (n i : ℕ) (labels guards : List ℕ) → i < n → joinFrom (n - (i + 1)) (i + 1) (guardText labels guards i) ≡ joinFrom n 0 (guardText labels guards i)
