@@ -19,6 +19,7 @@ pub mod Writes
 pub mod Kept
 pub mod RoundTrip
 pub mod GuardTrip
+pub mod SheetTrip
 pub mod Updates
 pub mod Marks
 pub mod Accepted
