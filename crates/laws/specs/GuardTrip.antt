@@ -68,22 +68,22 @@ module _ (n : ℕ) (labels widths guards starts : List ℕ) (ok : Writable n lab
 
   upto-none : Upto n guards 0 (cleared 16384 255)
   upto-none = record {
-      long = cleared-length 16384 255;
-      set-cells = λ a b h l c. absurd (omega arith);
-      late-cells = λ a b h l c. (cleared-at 16384 255 (cell a b) (omega arith), cleared-at 16384 255 (cell b a) (omega arith));
-      past-cells = λ a b h l c. (cleared-at 16384 255 (cell a b) (omega arith), cleared-at 16384 255 (cell b a) (omega arith));
-      diagonal = λ a h. cleared-at 16384 255 (cell a a) (omega arith);
-    }
+    long = cleared-length 16384 255;
+    set-cells = λ a b h l c. absurd (omega arith);
+    late-cells = λ a b h l c. (cleared-at 16384 255 (cell a b) (omega arith), cleared-at 16384 255 (cell b a) (omega arith));
+    past-cells = λ a b h l c. (cleared-at 16384 255 (cell a b) (omega arith), cleared-at 16384 255 (cell b a) (omega arith));
+    diagonal = λ a h. cleared-at 16384 255 (cell a a) (omega arith);
+  }
 
   -- one cell on, where no line stands
   upto-skip : (i j : ℕ) (t : List ℕ) → j < 128 → (i < j → at guards (cell i j) ≡ 255) → Upto n guards (cell i j) t → Upto n guards (suc (cell i j)) t
   upto-skip i j t b e u = record {
-      long = u .long;
-      set-cells = λ a d h l c. go a d h l c (decLt (cell a d) (cell i j));
-      late-cells = λ a d h l c. u .late-cells a d h l (omega arith);
-      past-cells = u .past-cells;
-      diagonal = u .diagonal;
-    }
+    long = u .long;
+    set-cells = λ a d h l c. go a d h l c (decLt (cell a d) (cell i j));
+    late-cells = λ a d h l c. u .late-cells a d h l (omega arith);
+    past-cells = u .past-cells;
+    diagonal = u .diagonal;
+  }
     where
       go : (a d : ℕ) → a < d → d < n → cell a d < suc (cell i j) → Dec (cell a d < cell i j) → (at t (cell a d) ≡ at guards (cell a d)) × (at t (cell d a) ≡ at guards (cell a d))
       go a d h l c (yes x) = u .set-cells a d h l x
@@ -123,12 +123,12 @@ module _ (n : ℕ) (labels widths guards starts : List ℕ) (ok : Writable n lab
 
     upto-more : Upto n guards (suc (cell i j)) t′
     upto-more = record {
-        long = length-set (set t (cell i j) g) (cell j i) g ∙ length-set t (cell i j) g ∙ u .long;
-        set-cells = λ a b x y c. go a b x y (decLt (cell a b) (cell i j)) c;
-        late-cells = λ a b x y c. others a b 255 255 x y (λ e. omega arith) (u .late-cells a b x y (omega arith));
-        past-cells = λ a b x y c. others a b 255 255 x y (λ e. let few = ok .few in omega arith) (u .past-cells a b x y c);
-        diagonal = λ a x. other (cell a a) (λ e. let few = ok .few in omega arith) (λ e. let few = ok .few in omega arith) ∙ u .diagonal a x;
-      }
+      long = length-set (set t (cell i j) g) (cell j i) g ∙ length-set t (cell i j) g ∙ u .long;
+      set-cells = λ a b x y c. go a b x y (decLt (cell a b) (cell i j)) c;
+      late-cells = λ a b x y c. others a b 255 255 x y (λ e. omega arith) (u .late-cells a b x y (omega arith));
+      past-cells = λ a b x y c. others a b 255 255 x y (λ e. let few = ok .few in omega arith) (u .past-cells a b x y c);
+      diagonal = λ a x. other (cell a a) (λ e. let few = ok .few in omega arith) (λ e. let few = ok .few in omega arith) ∙ u .diagonal a x;
+    }
       where
         go : (a b : ℕ) → a < b → b < n → Dec (cell a b < cell i j) → cell a b < suc (cell i j) → (at t′ (cell a b) ≡ at guards (cell a b)) × (at t′ (cell b a) ≡ at guards (cell a b))
         go a b x y (yes d) c = others a b (at guards (cell a b)) (at guards (cell a b)) x (let few = ok .few in omega arith) (λ e. omega arith) (u .set-cells a b x y d)
@@ -141,12 +141,12 @@ module _ (n : ℕ) (labels widths guards starts : List ℕ) (ok : Writable n lab
   -- a row's end is the next row's beginning
   upto-row : (i : ℕ) (t : List ℕ) → Upto n guards (cell i n) t → Upto n guards (cell (suc i) 0) t
   upto-row i t u = record {
-      long = u .long;
-      set-cells = λ a b h l c. u .set-cells a b h l (let few = ok .few in omega arith);
-      late-cells = λ a b h l c. u .late-cells a b h l (let few = ok .few in omega arith);
-      past-cells = u .past-cells;
-      diagonal = u .diagonal;
-    }
+    long = u .long;
+    set-cells = λ a b h l c. u .set-cells a b h l (let few = ok .few in omega arith);
+    late-cells = λ a b h l c. u .late-cells a b h l (let few = ok .few in omega arith);
+    past-cells = u .past-cells;
+    diagonal = u .diagonal;
+  }
 
   -- one guard line, written and read
   guard-back : (i j k : ℕ) (t l : List ℕ) → i < j → j < n → at guards (cell i j) ≤ 32 → Upto n guards (cell i j) t
@@ -202,11 +202,11 @@ module _ (n : ℕ) (labels widths guards starts : List ℕ) (ok : Writable n lab
             then-table = r .then-table;
             holds = r .holds;
             leads = λ k.
-              ap (λ (v : List ℕ). lines step top ((1 + c) + m) k t v) text
-              ∙ ap (λ (v : ℕ). lines step top v k t (pairText labels guards i j ++ (rest ++ l))) (let z : (1 + c) + m ≡ suc (c + m) = omega arith in z)
-              ∙ one-line top (c + m) k t t₁ (pairText labels guards i j ++ (rest ++ l)) (rest ++ l) (guard-back i j k t (rest ++ l) (h .0) y near u)
-              ∙ r .leads (suc k)
-              ∙ ap (λ (v : ℕ). lines step top m v (r .then-table) l) (let z : suc k + c ≡ k + (1 + c) = omega arith in z);
+                ap (λ (v : List ℕ). lines step top ((1 + c) + m) k t v) text
+                ∙ ap (λ (v : ℕ). lines step top v k t (pairText labels guards i j ++ (rest ++ l))) (let z : (1 + c) + m ≡ suc (c + m) = omega arith in z)
+                ∙ one-line top (c + m) k t t₁ (pairText labels guards i j ++ (rest ++ l)) (rest ++ l) (guard-back i j k t (rest ++ l) (h .0) y near u)
+                ∙ r .leads (suc k)
+                ∙ ap (λ (v : ℕ). lines step top m v (r .then-table) l) (let z : suc k + c ≡ k + (1 + c) = omega arith in z);
           }
         where
           close : (at guards (cell i j) ≡ 255) ⊎ (at guards (cell i j) ≤ 32) → at guards (cell i j) < 255 → at guards (cell i j) ≤ 32
@@ -245,10 +245,10 @@ module _ (n : ℕ) (labels widths guards starts : List ℕ) (ok : Writable n lab
         then-table = q .then-table;
         holds = q .holds;
         leads = λ k.
-          ap (λ (x : List ℕ). lines step top ((a + b) + m) k t x) (append-assoc v w l)
-          ∙ ap (λ (x : ℕ). lines step top x k t (v ++ (w ++ l))) (let z : (a + b) + m ≡ a + (b + m) = omega arith in z)
-          ∙ p .leads k ∙ q .leads (k + a)
-          ∙ ap (λ (x : ℕ). lines step top m x (q .then-table) l) (let z : (k + a) + b ≡ k + (a + b) = omega arith in z);
+            ap (λ (x : List ℕ). lines step top ((a + b) + m) k t x) (append-assoc v w l)
+            ∙ ap (λ (x : ℕ). lines step top x k t (v ++ (w ++ l))) (let z : (a + b) + m ≡ a + (b + m) = omega arith in z)
+            ∙ p .leads k ∙ q .leads (k + a)
+            ∙ ap (λ (x : ℕ). lines step top m x (q .then-table) l) (let z : (k + a) + b ≡ k + (a + b) = omega arith in z);
       }
 
   rows-back : (top r i : ℕ) (t l : List ℕ) (m : ℕ) → i + r ≡ n → Upto n guards (cell i 0) t

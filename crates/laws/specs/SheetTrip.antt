@@ -1,30 +1,29 @@
 -- A whole sheet: what the writer writes, the reader reads back to the same n, labels, widths, guards and starts, cells past n cleared.
 -- Assumes nothing.
-use Prim.Native.Nat.{ℕ, zero, suc, _+_, _*_, _≤_, _<_}
-use mathlib.Core.Path.{_≡_, refl, sym, ap, subst, _∙_}
-use mathlib.Core.Logic.{_≢_, _⊎_, inl, inr}
+use Prim.Native.Nat.{ℕ, zero, _+_, _≤_, _<_}
+use mathlib.Core.Path.{_≡_, refl, sym, ap, _∙_}
+use mathlib.Core.Logic.{_⊎_, inl, inr}
 use mathlib.Core.Bool.{Bool, true, false, cond, not, _&&_, _||_, true≢false}
-use mathlib.Core.List.{List, [], _∷_, _++_, append-assoc, append-nil}
+use mathlib.Core.List.{List, [], _++_, append-assoc, append-nil}
 use lib.ListN.{length, drop, take, length-append}
 use lib.Seq.{drop-length, take-append-seam}
 use lib.Dec.{ltb, eqb}
 use native.Mathlib.Decide.{decLt}
 use native.Mathlib.Omega.{arith}
-use borrow.Author.Tests.{ltb-false, eqb-true, eqb-false, eq-eqb, ne-eqb}
+use borrow.Author.Tests.{ltb-false, eqb-true, eq-eqb}
 use Rattle.rules.specs.declared.Fault.{Fault}
-use Rattle.rules.specs.declared.SheetRead.{SheetRead}
 use Rattle.rules.specs.declared.SheetWritten.{SheetWritten}
 use Rattle.rules.specs.Tables.{at, cell, cleared}
 use Rattle.rules.specs.Scan.{found}
-use Rattle.rules.specs.Text.{some, pathsWord, guardsWord, startsWord, numeral, space, lineFeed}
-use Rattle.rules.specs.Sheet.{Section, done, lines, countLine, pathStep, guardStep, startStep, after, startsPart, guardsPart, sheetFrom}
+use Rattle.rules.specs.Text.{some, pathsWord, guardsWord, startsWord}
+use Rattle.rules.specs.Sheet.{done, lines, countLine, pathStep, startStep, after, startsPart, guardsPart, sheetFrom}
 use Rattle.rules.specs.Writing.{badLabel, labelTwice, pairs, hasPlan, joinFrom, countText, pathText, guardText, pathsText, guardsText, startsText, sheetText}
-use Rattle.rules.specs.Numbers.{refuseIf, _orElse_, scan, square, badWidth, badGuard, badMirror, badStart, networkFault, sheetSizes, writeFault}
+use Rattle.rules.specs.Numbers.{refuseIf, scan, badWidth, badGuard, badStart, networkFault, sheetSizes, writeFault}
 use Rattle.rules.specs.Calls.{Left, left, unless, readOutcome, reading, writing}
 use Rattle.laws.specs.Scans.{found-not}
 use Rattle.laws.specs.Tables.{cleared-length, cleared-at}
 use Rattle.laws.specs.Faults.{refuse-clear, or-clear, scan-clear, square-clear}
-use Rattle.laws.specs.Accepted.{Accepted, network-clear, inside, neither}
+use Rattle.laws.specs.Accepted.{network-clear, inside}
 use Rattle.laws.specs.Lines.{starts-none, starts-done, guards-rest, sheet-done}
 use Rattle.laws.specs.Writes.{count-length}
 use Rattle.laws.specs.Kept.{front, front-in, front-past, keptCells, keptLabels, cells-is, cells-none, labels-none}
@@ -96,3 +95,78 @@ module _ (n : ℕ) (labels widths guards starts : List ℕ) (ok : Writable n lab
       (keptLabels n labels) (keptCells n widths) R
       (ap (λ (t : List ℕ × List ℕ). lines pathStep 2 n 0 t (P ++ R)) (λ i. (labels-none labels i, cells-none widths i)) ∙ paths-back n labels widths guards starts ok R)
       (keptGuards n guards) (keptCells n starts) [] guards-trip
+
+-- what a writer that finds no fault says
+guard-kinds : (guards : List ℕ) (i j : ℕ) → badGuard guards i j ≡ false → (at guards (cell i j) ≡ 255) ⊎ (at guards (cell i j) ≤ 32)
+guard-kinds guards i j = go (eqb (at guards (cell i j)) 255) refl (eqb i j) (ltb 32 (at guards (cell i j))) refl
+  where
+    go : (a : Bool) → eqb (at guards (cell i j)) 255 ≡ a → (b d : Bool) → ltb 32 (at guards (cell i j)) ≡ d → (not a && (b || d)) ≡ false
+        → (at guards (cell i j) ≡ 255) ⊎ (at guards (cell i j) ≤ 32)
+    go true p b d q e = inl (eqb-true (at guards (cell i j)) 255 p)
+    go false p true d q e = absurd (true≢false e)
+    go false p false true q e = absurd (true≢false e)
+    go false p false false q e = inr (ltb-false 32 (at guards (cell i j)) q)
+
+pub writable : (n : ℕ) (labels widths guards starts text : List ℕ) → writeFault n labels widths guards starts text .number ≡ 0 → Writable n labels widths guards starts
+unfolding writeFault networkFault
+writable n labels widths guards starts text z =
+    let a = or-clear (sheetSizes labels widths guards starts) _ z in
+    let b = or-clear (networkFault n widths guards) _ (a .1) in
+    let l = or-clear (scan 11 (badLabel labels) n) _ (b .1) in
+    let t = or-clear (scan 12 (labelTwice labels) n) _ (l .1) in
+    let p = or-clear (refuseIf (ltb 2000 (pairs n guards)) 1 0) _ (t .1) in
+    let s = or-clear (scan 7 (λ k. hasPlan n starts && badStart starts k) n) _ (p .1) in
+    let net = network-clear n widths guards (b .0) in
+    let w = or-clear _ _ (or-clear _ _ (b .0) .1) in
+    let g = or-clear _ _ (w .1) in
+    record {
+      some-path = net .some;
+      few = net .few;
+      formed = scan-clear 11 (badLabel labels) n (omega arith) (l .0);
+      once = scan-clear 12 (labelTwice labels) n (omega arith) (t .0);
+      wide = λ k x. inside 1 64 (at widths k) (scan-clear 3 (badWidth widths) n (omega arith) (w .0) k x);
+      near = λ i j x y. guard-kinds guards i j (square-clear 4 (badGuard guards) n (omega arith) (g .0) i j x y);
+      mirrored = net .good .mirrored;
+      alone = net .good .alone;
+      not-many = ltb-false 2000 (pairs n guards) (refuse-clear (ltb 2000 (pairs n guards)) 1 0 (omega arith) (p .0));
+      planned = λ e k x. inside 1 16384 (at starts k) (sym (ap (λ (b : Bool). b && badStart starts k) e) ∙ scan-clear 7 (λ k. hasPlan n starts && badStart starts k) n (omega arith) (s .0) k x);
+    }
+
+-- a call that answers 0 found no fault
+accepted-write : (n : ℕ) (labels widths guards starts text : List ℕ) → writing n labels widths guards starts text .answer .number ≡ 0 → writeFault n labels widths guards starts text .number ≡ 0
+unfolding writing unless
+accepted-write n labels widths guards starts text = go (eqb (writeFault n labels widths guards starts text .number) 0) refl
+  where
+    sheet : List ℕ
+    sheet = sheetText n labels widths guards starts
+
+    f : Fault
+    f = writeFault n labels widths guards starts text
+
+    go : (b : Bool) → eqb (f .number) 0 ≡ b
+        → cond b (left {A = SheetWritten} (record { number = 0; place = 0; length = length sheet }) (sheet ++ drop (length sheet) text)) (left (record { number = f .number; place = f .place; length = 0 }) text) .answer .number ≡ 0
+        → f .number ≡ 0
+    go true e z = eqb-true (f .number) 0 e
+    go false e z = z
+
+-- the sheet that a call wrote: the first bytes of the text, as many as it answers
+abbrev pub sheetOf : Left SheetWritten (List ℕ) → List ℕ
+sheetOf w = take (w .answer .length) (w .tables)
+
+pub written-sheet : (n : ℕ) (labels widths guards starts text : List ℕ) → writing n labels widths guards starts text .answer .number ≡ 0
+    → sheetOf (writing n labels widths guards starts text) ≡ sheetText n labels widths guards starts
+unfolding writing unless
+written-sheet n labels widths guards starts text z =
+    let s = sheetText n labels widths guards starts in
+    let e = eq-eqb (writeFault n labels widths guards starts text .number) 0 (accepted-write n labels widths guards starts text z) in
+    rw e (take-append-seam s (drop (length s) text))
+
+-- what `write` writes, `read` reads back to the same n, labels, widths, guards and starts, cells past n cleared
+pub written-read : (n : ℕ) (labels widths guards starts text : List ℕ) → writing n labels widths guards starts text .answer .number ≡ 0
+    → (labels′ widths′ guards′ starts′ : List ℕ) → sheetSizes labels′ widths′ guards′ starts′ .number ≡ 0
+    → reading (sheetOf (writing n labels widths guards starts text)) labels′ widths′ guards′ starts′
+    ≡ left (record { number = 0; place = 0; n = n }) (keptLabels n labels, keptCells n widths, keptGuards n guards, keptCells n starts)
+unfolding reading unless readOutcome
+written-read n labels widths guards starts text z labels′ widths′ guards′ starts′ sizes =
+    let ok = writable n labels widths guards starts text (accepted-write n labels widths guards starts text z) in
+    rw (eq-eqb (sheetSizes labels′ widths′ guards′ starts′ .number) 0 sizes, written-sheet n labels widths guards starts text z, sheet-back n labels widths guards starts ok)
