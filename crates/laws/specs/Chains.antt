@@ -7,7 +7,7 @@ use native.Mathlib.Omega.{arith}
 use lib.ListN.{length}
 use lib.Dec.{eqb}
 use Rattle.rules.specs.declared.Fault.{Fault}
-use Rattle.rules.specs.Numbers.{refuseIf, outside, countFault, sizeFault, networkSizes}
+use Rattle.rules.specs.Numbers.{refuseIf, outside, countFault, sizeFault, networkFault, networkSizes}
 use Rattle.laws.specs.Faults.{refuse-clear, or-clear, size-clear}
 use Rattle.laws.specs.Limits.{outside-not}
 
@@ -19,6 +19,10 @@ number-of e z = sym (ap (λ (x : Fault). x .number) e) ∙ z
 pub count-clear : (n : ℕ) → countFault n .number ≡ 0 → (1 ≤ n) × (n ≤ 128)
 unfolding countFault
 count-clear n z = outside-not 1 128 n (refuse-clear (outside 1 128 n) 1 0 (omega arith) z)
+
+pub network-count : (n : ℕ) (widths guards : List ℕ) → networkFault n widths guards .number ≡ 0 → (1 ≤ n) × (n ≤ 128)
+unfolding networkFault
+network-count n widths guards z = count-clear n (or-clear _ _ z .0)
 
 -- 2, of a table of so many cells, and of the tables that every call is lent
 pub size-is : (table : List ℕ) (cells size : ℕ) {f : Fault} → f ≡ refuseIf (not (eqb cells size)) 2 0 → length table ≡ cells → f ≡ sizeFault table size

@@ -28,6 +28,14 @@ pub mod OnFlooring
 pub mod OneAnswer
 pub mod Witness
 pub mod Unfit
+pub mod Texts
+pub mod Rows
+pub mod Lines
+pub mod Writes
+pub mod Kept
+pub mod RoundTrip
+pub mod GuardTrip
+pub mod SheetTrip
 pub mod Updates
 pub mod Marks
 pub mod Chains

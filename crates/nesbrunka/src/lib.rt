@@ -3,9 +3,11 @@ use rules::Floored;
 use rules::Judged;
 use rules::Packed;
 use rules::Planned;
+use rules::SheetRead;
+use rules::SheetWritten;
 use rules::Sided;
 ghost use mathlib.Core.Path.{_≡_};
-ghost use Rattle.rules.specs.Calls.{left, judging, packing, pressing, siding, improving, planning, flooring};
+ghost use Rattle.rules.specs.Calls.{left, judging, packing, pressing, siding, improving, planning, flooring, reading, writing};
 ghost use Rattle.rules.specs.Better.{comparing};
 
 #[no_mangle]
@@ -101,4 +103,31 @@ pub extern "C" fn nesbrunka_floor(n: usize, widths: &[u16], guards: &[u8], list:
     ensures { λ r. ⌜ r ≡ flooring n (now (widths .entry)) (now (guards .entry)) (now (list .entry)) ⌝ }
 {
     planning::floor(n, widths, guards, list)
+}
+
+#[no_mangle]
+pub extern "C" fn nesbrunka_read(
+    text: &[u8],
+    labels: &mut [u8],
+    widths: &mut [u16],
+    guards: &mut [u8],
+    starts: &mut [u16],
+) -> SheetRead
+    ensures { λ r. ⌜ left r (now (labels .exit), now (widths .exit), now (guards .exit), now (starts .exit)) ≡ reading (now (text .entry)) (now (labels .entry)) (now (widths .entry)) (now (guards .entry)) (now (starts .entry)) ⌝ }
+{
+    sheet::read(text, labels, widths, guards, starts)
+}
+
+#[no_mangle]
+pub extern "C" fn nesbrunka_write(
+    n: usize,
+    labels: &[u8],
+    widths: &[u16],
+    guards: &[u8],
+    starts: &[u16],
+    text: &mut [u8],
+) -> SheetWritten
+    ensures { λ r. ⌜ left r (now (text .exit)) ≡ writing n (now (labels .entry)) (now (widths .entry)) (now (guards .entry)) (now (starts .entry)) (now (text .entry)) ⌝ }
+{
+    sheet::write(n, labels, widths, guards, starts, text)
 }
