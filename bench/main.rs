@@ -1,4 +1,6 @@
 // Speed, side by side in one run: the library against plain Rust of the same rules. Only ratios are printed; times differ from machine to machine.
+mod sheet;
+
 use std::hint::black_box;
 use std::time::Instant;
 
@@ -20,8 +22,23 @@ struct Planned {
     kept: usize,
 }
 
+// What the reader and the writer answer: the third is n, or the length.
+#[repr(C)]
+struct Sheet {
+    number: usize,
+    place: usize,
+    third: usize,
+}
+
 // In C a slice is a pointer and then a length.
 extern "C" {
+    fn nesbrunka_read(
+        text: *const u8, t: usize, labels: *mut u8, l: usize, widths: *mut u16, w: usize, guards: *mut u8, g: usize, starts: *mut u16, s: usize,
+    ) -> Sheet;
+    fn nesbrunka_write(
+        n: usize, labels: *const u8, l: usize, widths: *const u16, w: usize, guards: *const u8, g: usize, starts: *const u16, s: usize, text: *mut u8,
+        t: usize,
+    ) -> Sheet;
     fn nesbrunka_improve(
         n: usize, widths: *const u16, w: usize, guards: *const u8, g: usize, order: *mut u8, o: usize, starts: *mut u16, s: usize, seed: u32,
         rounds: usize,
@@ -230,6 +247,72 @@ fn improving(random: &mut Random) {
     println!("planning a line of 128 paths / 1,000 rounds at 128 and 50 %: {:.3} (goal: under 0.050)", plan / rounds);
 }
 
+fn library_read(text: &[u8]) -> sheet::Tables {
+    let mut t = sheet::Tables::cleared();
+    let (l, w, g, s) = (t.labels.as_mut_ptr(), t.widths.as_mut_ptr(), t.guards.as_mut_ptr(), t.starts.as_mut_ptr());
+    let r = unsafe { nesbrunka_read(text.as_ptr(), text.len(), l, 1024, w, PATHS, g, CELLS, s, PATHS) };
+    assert!(r.number == 0, "refused {} line {}", r.number, r.place);
+    t.n = r.third;
+    t
+}
+
+fn library_write(t: &sheet::Tables, text: &mut [u8]) -> usize {
+    let (l, w, g, s) = (t.labels.as_ptr(), t.widths.as_ptr(), t.guards.as_ptr(), t.starts.as_ptr());
+    let r = unsafe { nesbrunka_write(t.n, l, 1024, w, PATHS, g, CELLS, s, PATHS, text.as_mut_ptr(), text.len()) };
+    assert!(r.number == 0, "refused {} at {}", r.number, r.place);
+    r.third
+}
+
+// The longest sheet: 128 labels of eight bytes, widths, guards and starts of the most digits, 2,000 guard lines.
+fn longest(random: &mut Random) -> sheet::Tables {
+    let mut t = sheet::Tables::cleared();
+    t.n = PATHS;
+    for k in 0..PATHS {
+        let label = format!("PATH-{:03}", k);
+        t.labels[8 * k..8 * k + 8].copy_from_slice(label.as_bytes());
+        t.widths[k] = 10 + random.below(55) as u16;
+        t.starts[k] = 10000 + random.below(6385) as u16;
+    }
+    let mut pairs = 0;
+    while pairs < 2000 {
+        let (i, j) = (random.below(128) as usize, random.below(128) as usize);
+        if i < j && t.guards[128 * i + j] == 255 {
+            let guard = 10 + random.below(23) as u8;
+            t.guards[128 * i + j] = guard;
+            t.guards[128 * j + i] = guard;
+            pairs += 1;
+        }
+    }
+    t
+}
+
+fn least(times: usize, mut work: impl FnMut()) -> f64 {
+    let mut least = f64::INFINITY;
+    for _ in 0..times {
+        let began = Instant::now();
+        work();
+        least = least.min(began.elapsed().as_secs_f64());
+    }
+    least
+}
+
+fn sheets(random: &mut Random) {
+    let t = longest(random);
+    let mut plain = Vec::with_capacity(50000);
+    sheet::write(&t, &mut plain).ok().expect("the tables are right");
+    assert!(plain.len() == 45489, "the longest sheet has {} bytes", plain.len());
+    let mut text = vec![0u8; 45489];
+    assert!(library_write(&t, &mut text) == 45489 && text == plain, "the sheets differ");
+    let (a, b) = (library_read(&text), sheet::read(&text).ok().expect("the sheet is right"));
+    let same = a.n == b.n && a.labels == b.labels && a.widths == b.widths && a.guards == b.guards && a.starts == b.starts;
+    assert!(same && a.guards == t.guards && a.starts == t.starts, "the tables differ");
+    let plain_read = least(200, || drop(black_box(sheet::read(black_box(&text)))));
+    let read = least(200, || drop(black_box(library_read(black_box(&text)))));
+    let plain_write = least(200, || assert!(black_box(sheet::write(black_box(&t), &mut plain)) == Ok(45489)));
+    let write = least(200, || assert!(black_box(library_write(black_box(&t), &mut text)) == 45489));
+    println!("the longest sheet / plain Rust of the same rules: reading {:.2}, writing {:.2} (goal: at most 1.50)", read / plain_read, write / plain_write);
+}
+
 fn main() {
     let packers: [Packer; 4] = [library, look_back, engine, push];
     let mut random = Random(0x9E3779B97F4A7C15);
@@ -258,4 +341,5 @@ fn main() {
     }
     println!("goals at 128 and 50 %: at most 0.25, and at most 1.20");
     improving(&mut random);
+    sheets(&mut random);
 }
