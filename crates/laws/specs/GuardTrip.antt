@@ -38,7 +38,7 @@ squareOf n guards c = cond (ltb (c / 128) n && ltb (c % 128) n) (at guards c) 25
 unfoldable pub keptGuards : ℕ → List ℕ → List ℕ
 keptGuards n guards = tabFrom 16384 0 (squareOf n guards)
 
-square-in : (n : ℕ) (guards : List ℕ) (c : ℕ) → c / 128 < n → c % 128 < n → squareOf n guards c ≡ at guards c
+pub square-in : (n : ℕ) (guards : List ℕ) (c : ℕ) → c / 128 < n → c % 128 < n → squareOf n guards c ≡ at guards c
 unfolding squareOf
 square-in n guards c a b = rw (lt-ltb (c / 128) n a, lt-ltb (c % 128) n b)
 

@@ -20,6 +20,7 @@ pub mod Kept
 pub mod RoundTrip
 pub mod GuardTrip
 pub mod SheetTrip
+pub mod SameBytes
 pub mod Updates
 pub mod Marks
 pub mod Accepted
