@@ -26,7 +26,7 @@ unfoldable pub ones : ℕ → ℕ → (ℕ → ℕ) → ℕ
 ones zero j f = 0
 ones (suc r) j f = f j + ones r (suc j) f
 
-sum-ones : (f : ℕ → ℕ) (r j : ℕ) → sum f (j + r) ≡ sum f j + ones r j f
+pub sum-ones : (f : ℕ → ℕ) (r j : ℕ) → sum f (j + r) ≡ sum f j + ones r j f
 unfolding ones sum
 sum-ones f zero j = omega (arith, ap (sum f) (add-zero j))
 sum-ones f (suc r) j = let e : j + suc r ≡ suc j + r = omega arith in rw e (omega (arith, sum-ones f r (suc j)))

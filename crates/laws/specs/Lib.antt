@@ -21,6 +21,7 @@ pub mod RoundTrip
 pub mod GuardTrip
 pub mod SheetTrip
 pub mod SameBytes
+pub mod Longest
 pub mod Updates
 pub mod Marks
 pub mod Accepted
