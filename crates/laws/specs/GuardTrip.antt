@@ -26,7 +26,7 @@ unfoldable pub ones : ℕ → ℕ → (ℕ → ℕ) → ℕ
 ones zero j f = 0
 ones (suc r) j f = f j + ones r (suc j) f
 
-sum-ones : (f : ℕ → ℕ) (r j : ℕ) → sum f (j + r) ≡ sum f j + ones r j f
+pub sum-ones : (f : ℕ → ℕ) (r j : ℕ) → sum f (j + r) ≡ sum f j + ones r j f
 unfolding ones sum
 sum-ones f zero j = omega (arith, ap (sum f) (add-zero j))
 sum-ones f (suc r) j = let e : j + suc r ≡ suc j + r = omega arith in rw e (omega (arith, sum-ones f r (suc j)))
@@ -38,7 +38,7 @@ squareOf n guards c = cond (ltb (c / 128) n && ltb (c % 128) n) (at guards c) 25
 unfoldable pub keptGuards : ℕ → List ℕ → List ℕ
 keptGuards n guards = tabFrom 16384 0 (squareOf n guards)
 
-square-in : (n : ℕ) (guards : List ℕ) (c : ℕ) → c / 128 < n → c % 128 < n → squareOf n guards c ≡ at guards c
+pub square-in : (n : ℕ) (guards : List ℕ) (c : ℕ) → c / 128 < n → c % 128 < n → squareOf n guards c ≡ at guards c
 unfolding squareOf
 square-in n guards c a b = rw (lt-ltb (c / 128) n a, lt-ltb (c % 128) n b)
 

@@ -36,6 +36,8 @@ pub mod Kept
 pub mod RoundTrip
 pub mod GuardTrip
 pub mod SheetTrip
+pub mod SameBytes
+pub mod Longest
 pub mod Updates
 pub mod Marks
 pub mod Chains

@@ -126,7 +126,7 @@ writable n labels widths guards starts text z =
     }
 
 -- a call that answers 0 found no fault
-accepted-write : (n : ℕ) (labels widths guards starts text : List ℕ) → writing n labels widths guards starts text .answer .number ≡ 0 → writeFault n labels widths guards starts text .number ≡ 0
+pub accepted-write : (n : ℕ) (labels widths guards starts text : List ℕ) → writing n labels widths guards starts text .answer .number ≡ 0 → writeFault n labels widths guards starts text .number ≡ 0
 unfolding writing unless
 accepted-write n labels widths guards starts text = go (eqb (writeFault n labels widths guards starts text .number) 0) refl
   where
