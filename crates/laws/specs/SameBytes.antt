@@ -16,7 +16,7 @@ use Rattle.rules.specs.Sheet.{isRow}
 use Rattle.rules.specs.Writing.{labelOf, badLabel, labelTwice, isPair, pairs, hasPlan, joinFrom, pathText, guardText, pathsText, guardsText, startsText, sheetText}
 use Rattle.rules.specs.Numbers.{noFault, refuseIf, _orElse_, scan, square, outside, badWidth, badGuard, badMirror, badStart, countFault, sizeFault, networkSizes, networkFault, sheetSizes, writeFault}
 use Rattle.rules.specs.Calls.{unless, writing}
-use Rattle.laws.specs.Scans.{found-same}
+use Rattle.laws.specs.Scans.{found-same, sum-same}
 use Rattle.laws.specs.Faults.{or-clear, or-none, refuse-not, scan-none, scan-clear, square-none, square-clear, size-good, size-clear}
 use Rattle.laws.specs.Kept.{front-in, keptCells, keptLabels, cells-length, cells-at, labels-length, labels-at, row-kept, tab-length, tab-at}
 use Rattle.laws.specs.GuardTrip.{keptGuards, squareOf, square-in}
@@ -24,11 +24,6 @@ use Rattle.laws.specs.SheetTrip.{writable, accepted-write, sheetOf, writ
 
 number-is : (f g : Fault) → f ≡ g → g .number ≡ 0 → f .number ≡ 0
 number-is f g e z = ap (λ (x : Fault). x .number) e ∙ z
-
-sum-same : (f g : ℕ → ℕ) (n : ℕ) → ((k : ℕ) → k < n → f k ≡ g k) → sum f n ≡ sum g n
-unfolding sum
-sum-same f g zero h = refl
-sum-same f g (suc n) h = rw (sum-same f g n (λ k l. h k (omega arith)), h n (omega arith))
 
 join-same : (f g : ℕ → List ℕ) (m k : ℕ) → ((i : ℕ) → i < k + m → f i ≡ g i) → joinFrom m k f ≡ joinFrom m k g
 unfolding joinFrom
