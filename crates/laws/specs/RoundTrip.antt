@@ -41,7 +41,7 @@ guard-trip a b g l p q r p′ q′ r′ h =
     rw (label-trip a 32 (b ++ 32 ∷ (numeral g ++ 10 ∷ l)) p q r refl, word-trip space (b ++ 32 ∷ (numeral g ++ 10 ∷ l)), line-trip b g l p′ q′ r′ h)
 
 -- every byte of a run passes
-run-all : (p : ℕ → Bool) (l : List ℕ) → All p (run p l)
+pub run-all : (p : ℕ → Bool) (l : List ℕ) → All p (run p l)
 unfolding run
 run-all p [] = tt
 run-all p (x ∷ l) = go (p x) refl (run-all p l)
