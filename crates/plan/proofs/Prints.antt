@@ -21,7 +21,7 @@ use Rattle.rules.specs.Numbers.{_orElse_, noFault, refuseIf, scan, badStart, si
 use Rattle.rules.specs.Calls.{Left, left, unless, planning, readOutcome, reading, writing}
 use Rattle.rules.specs.Program.{refusalText, plannedText, printed}
 use Rattle.laws.specs.Tables.{cleared-length}
-use Rattle.laws.specs.Writes.{digits-few}
+use Rattle.laws.specs.Writes.{both-pieces, digits-few}
 use Rattle.laws.specs.Faults.{or-clear, refuse-clear, size-good}
 
 abbrev Tables : Type 0
@@ -172,8 +172,8 @@ unfolding reading unless
 reading-even text labels widths guards starts a b c d = rw (sizes-none labels widths guards starts a b c d)
 
 module _ (input labels widths guards starts : List ℕ) (a : length labels ≡ 1024) (b : length widths ≡ 128) (c : length guards ≡ 16384) (d : length starts ≡ 128)
-  (r : SheetRead) (labels′ widths′ guards′ starts′ : List ℕ)
-  (e : _≡_ {A = Left SheetRead Tables} (left r (labels′, widths′, guards′, starts′)) (reading input labels widths guards starts)) where
+    (r : SheetRead) (labels′ widths′ guards′ starts′ : List ℕ)
+    (e : _≡_ {A = Left SheetRead Tables} (left r (labels′, widths′, guards′, starts′)) (reading input labels widths guards starts)) where
   same : _≡_ {A = Left SheetRead Tables} (left r (labels′, widths′, guards′, starts′)) (reading input (cleared 1024 0) (cleared 128 0) (cleared 16384 0) (cleared 128 0))
   same = e ∙ reading-even input labels widths guards starts a b c d
       ∙ sym (reading-even input (cleared 1024 0) (cleared 128 0) (cleared 16384 0) (cleared 128 0) (cleared-length 1024 0) (cleared-length 128 0) (cleared-length 16384 0) (cleared-length 128 0))
@@ -251,7 +251,7 @@ pub prints-sheet : (n : ℕ) (labels widths guards starts order order′ starts�
 unfolding plannedText
 prints-sheet n labels widths guards starts order order′ starts′ out out′ p w z h e f =
     let g : starts′ ≡ planning n widths guards (cleared 128 0) starts 1 1000 .tables .1
-        = ap (λ (x : Left Planned (List ℕ × List ℕ)). x .tables .1) e ∙ ap (λ (o : List ℕ). planning n widths guards o starts 1 1000 .tables .1) z in
+    = ap (λ (x : Left Planned (List ℕ × List ℕ)). x .tables .1) e ∙ ap (λ (o : List ℕ). planning n widths guards o starts 1 1000 .tables .1) z in
     ap sheetOf f ∙ written-even n labels widths guards starts′ out (cleared 45489 0) (h ∙ sym (cleared-length 45489 0)) ∙ ap (λ (s : List ℕ). sheetOf (writing n labels widths guards s (cleared 45489 0))) g
 
 pub prints-within : (n : ℕ) (labels widths guards starts out out′ : List ℕ) (w : SheetWritten) → length out ≡ 45489
@@ -272,3 +272,13 @@ refusal-length number line =
 
 pub refusal-within : (number line : ℕ) → number < 100000 → line < 100000 → length (refusalText number line) ≤ 45489
 refusal-within number line a b = omega (arith, refusal-length number line, digits-few number a, digits-few line b)
+
+-- the pieces of a refusal's line, one after the other
+pub refusal-wrote : (number line : ℕ) (l₀ l₁ l₂ l₃ l₄ l₅ : List ℕ) (p q e f r : ℕ) → (p ≡ 0 + 8) × (l₁ ≡ sets l₀ 0 (bytes "refused ")) → (q ≡ p + length (numeral number)) × (l₂ ≡ sets l₁ p (numeral number))
+    → (e ≡ q + 6) × (l₃ ≡ sets l₂ q (bytes " line ")) → (f ≡ e + length (numeral line)) × (l₄ ≡ sets l₃ e (numeral line)) → (r ≡ f + 1) × (l₅ ≡ sets l₄ f lineFeed)
+    → (r ≡ 0 + length (refusalText number line)) × (l₅ ≡ sets l₀ 0 (refusalText number line))
+unfolding refusalText
+refusal-wrote number line l₀ l₁ l₂ l₃ l₄ l₅ p q e f r h₁ h₂ h₃ h₄ h₅ =
+    both-pieces l₀ l₁ l₅ 0 p r (bytes "refused ") (numeral number ++ (bytes " line " ++ (numeral line ++ lineFeed))) h₁
+    (both-pieces l₁ l₂ l₅ p q r (numeral number) (bytes " line " ++ (numeral line ++ lineFeed)) h₂
+    (both-pieces l₂ l₃ l₅ q e r (bytes " line ") (numeral line ++ lineFeed) h₃ (both-pieces l₃ l₄ l₅ e f r (numeral line) lineFeed h₄ h₅)))
