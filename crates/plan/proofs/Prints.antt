@@ -139,7 +139,7 @@ guards-short n labels guards starts l p =
     (λ t l₂. after-short (startsPart n (n + m + 3) labels starts l₂) (λ u l₃. done (t, u) l₃)
     (starts-short n (n + m + 3) labels starts l₂ p (omega (arith, q))) (λ u l₃. tt)))
 
-and-right : (a b : Bool) → (a && b) ≡ true → b ≡ true
+pub and-right : (a b : Bool) → (a && b) ≡ true → b ≡ true
 and-right true b e = e
 and-right false b e = absurd (true≢false (sym e))
 
@@ -166,7 +166,7 @@ sizes-none : (labels widths guards starts : List ℕ) → length labels ≡ 1024
 unfolding sheetSizes networkSizes _orElse_
 sizes-none labels widths guards starts a b c d = rw (← size-good labels 1024 a, ← size-good widths 128 b, ← size-good guards 16384 c, ← size-good starts 128 d)
 
-reading-even : (text labels widths guards starts : List ℕ) → length labels ≡ 1024 → length widths ≡ 128 → length guards ≡ 16384 → length starts ≡ 128
+pub reading-even : (text labels widths guards starts : List ℕ) → length labels ≡ 1024 → length widths ≡ 128 → length guards ≡ 16384 → length starts ≡ 128
     → reading text labels widths guards starts ≡ readOutcome (sheetFrom (cleared 1024 0) (cleared 128 0) (cleared 16384 255) (cleared 128 0) text)
 unfolding reading unless
 reading-even text labels widths guards starts a b c d = rw (sizes-none labels widths guards starts a b c d)
