@@ -3,7 +3,8 @@
 use libc::STDIN_FILENO;
 use libc::STDOUT_FILENO;
 ghost use mathlib.Core.Path.{_≡_};
-ghost use Prim.Native.Nat.{_≤_, _<_};
+ghost use Prim.Native.Nat.{ℕ, _-_, _≤_, _<_};
+ghost use mathlib.Core.List.{List, _++_};
 ghost use lib.ListN.{length, take};
 ghost use Rattle.io.specs.Counts.{Counts};
 ghost use Rattle.rules.specs.Program.{refusalText, plannedText, printed};
@@ -19,6 +20,7 @@ struct Input {
 fn keep(text: &mut [u8], have: usize, came: &[u8]) -> usize
     requires { ⌜ have ≤ length (now text) ⌝ }
     ensures { λ r. ⌜ r ≤ length (now (text .exit)) ⌝ }
+    ensures { λ r. ⌜ Wrote (now (text .entry)) have (take (length (now (text .entry)) - have) (now (came .entry))) r (now (text .exit)) ⌝ }
 {
     let mut k = have;
     let mut j = 0;
@@ -96,6 +98,7 @@ fn planned(
 }
 
 // From the input to what is printed: so many bytes of a lent text that has room for the longest sheet. The four tables are for the work.
+// Where the input has 65,536 bytes or more, whatever comes after them changes nothing.
 fn answer(
     input: &[u8],
     labels: &mut [u8],
@@ -107,6 +110,7 @@ fn answer(
     requires { ⌜ (length (now labels) ≡ 1024) × (length (now widths) ≡ 128) × (length (now guards) ≡ 16384) × (length (now starts) ≡ 128) × (length (now out) ≡ 45489) ⌝ }
     ensures { λ r. ⌜ take r (now (out .exit)) ≡ printed (now (input .entry)) ⌝ }
     ensures { λ r. ⌜ Counts r (now (out .exit)) ⌝ }
+    ensures { λ r. ⌜ ((rest : List ℕ) → 65536 ≤ length (now (input .entry)) → take r (now (out .exit)) ≡ printed (now (input .entry) ++ rest)) ⌝ }
 {
     let got = sheet::read(input, labels, widths, guards, starts);
     if got.number != 0 {
@@ -115,8 +119,8 @@ fn answer(
     planned(got.n, labels, widths, guards, starts, out)
 }
 
-// The text holds more than the longest sheet, of 45,489 bytes, and one line. The reader has its answer before it comes to the end of a text
-// that long, so the answer for what the text holds is the answer for the whole input.
+// The text holds the first 65,536 bytes of the input, more than the longest sheet has. Its answer is the answer for the whole input, as
+// `answer` promises.
 fn main() {
     let mut text = io::large_buffer();
     let input = read_all(&mut text);
