@@ -23,6 +23,7 @@ mod sheet;
 use compare::{Call, Chosen, Tally, CALLS};
 use gen::Rng;
 use groups::{program, Group, GROUPS};
+use std::io::{Read, Write};
 use std::process::ExitCode;
 use std::sync::atomic::{AtomicUsize, Ordering};
 use std::sync::Mutex;
@@ -38,6 +39,7 @@ second [--seed S] [--minutes M] [--only CALL,..] [--groups GROUP,..] [--threads 
   --groups      groups to run: exhaustive sizes small large rounds faults sheets program
   --threads T   threads (default: as many as there are processors)
   --trace       names each call and its case before it is made (for a library that crashes)
+second --print  prints what the plan program has to print for standard input; calls no library
 NESBRUNKA_LIB (when built) is the folder of libnesbrunka.a, NESBRUNKA_PLAN the plan program.";
 
 struct Options {
@@ -49,6 +51,9 @@ struct Options {
 }
 
 fn main() -> ExitCode {
+    if std::env::args().skip(1).eq(["--print"]) {
+        return print();
+    }
     match options(std::env::args().skip(1)) {
         Err(message) => {
             eprintln!("{message}");
@@ -56,6 +61,14 @@ fn main() -> ExitCode {
         }
         Ok(options) => run(&options),
     }
+}
+
+/// One run of the plan program by this program's own rules: the examples' answers come from here.
+fn print() -> ExitCode {
+    let mut text = Vec::new();
+    let read = std::io::stdin().read_to_end(&mut text);
+    let done = read.and_then(|_| std::io::stdout().write_all(&sheet::program(&text)));
+    ExitCode::from(u8::from(done.is_err()))
 }
 
 fn options(mut args: impl Iterator<Item = String>) -> Result<Options, String> {

@@ -1,0 +1,284 @@
+-- What the program prints, against its definition. Assumes nothing.
+use Prim.Native.Nat.{ℕ, zero, suc, _+_, _≤_, _<_}
+use mathlib.Core.Path.{_≡_, refl, sym, ap, _∙_}
+use mathlib.Core.Logic.{_≢_}
+use mathlib.Core.Bool.{Bool, true, false, cond, not, _&&_, true≢false}
+use mathlib.Core.List.{List, [], _∷_, _++_}
+use lib.ListN.{length, set, take, drop, replicate, length-append}
+use lib.Seq.{sets, sets-eq, take-append-seam}
+use lib.Dec.{ltb, leb, eqb}
+use native.Mathlib.Omega.{arith}
+use borrow.Author.Tests.{eq-eqb, ne-eqb, eqb-true, ltb-false, leb-true}
+use Rattle.rules.specs.declared.Fault.{Fault}
+use Rattle.rules.specs.declared.Planned.{Planned}
+use Rattle.rules.specs.declared.SheetRead.{SheetRead}
+use Rattle.rules.specs.declared.SheetWritten.{SheetWritten}
+use Rattle.rules.specs.Tables.{at, cell, cleared}
+use Rattle.rules.specs.Text.{Parsed, none, some, bytes, lineFeed, numeral, pathsWord, guardsWord, startsWord}
+use Rattle.rules.specs.Sheet.{isRow, find, putRow, Line, wrong, right, Section, halt, done, follow, lines, countLine, pathLine, guardLine, pathMeans, pathStep, guardCell, guardMeans, guardStep, startMeans, startStep, counted, after, ended, startsPart, guardsPart, sheetFrom}
+use Rattle.rules.specs.Writing.{sheetText, badLabel, labelTwice, pairs, hasPlan}
+use Rattle.rules.specs.Numbers.{_orElse_, noFault, refuseIf, scan, badStart, sizeFault, networkSizes, networkFault, sheetSizes, writeFault}
+use Rattle.rules.specs.Calls.{Left, left, unless, planning, readOutcome, reading, writing}
+use Rattle.rules.specs.Program.{refusalText, plannedText, printed}
+use Rattle.laws.specs.Tables.{cleared-length}
+use Rattle.laws.specs.Writes.{both-pieces, digits-few}
+use Rattle.laws.specs.Faults.{or-clear, refuse-clear, size-good}
+
+abbrev Tables : Type 0
+Tables = List ℕ × List ℕ × List ℕ × List ℕ
+
+-- The numbers and lines of the reader's refusals have at most five digits
+abbrev ShortLine : {T : Type 0} → Line T → Type 0
+ShortLine (wrong number) = number < 100000
+ShortLine (right t l) = Unit {0}
+
+abbrev Short : {T : Type 0} → Section T → Type 0
+Short (halt number line) = (number < 100000) × (line < 100000)
+Short (done t l) = Unit {0}
+
+choice : {T : Type 0} (b : Bool) (x y : Line T) → ShortLine x → ShortLine y → ShortLine (cond b x y)
+choice true x y p q = p
+choice false x y p q = q
+
+path-means : (k : ℕ) (labels widths : List ℕ) (p : Parsed (List ℕ × ℕ)) → ShortLine (pathMeans k labels widths p)
+unfolding pathMeans
+path-means k labels widths none = omega arith
+path-means k labels widths (some (w, v) l) =
+    choice (ltb (find labels k w) k) (wrong 12) (cond (leb 1 v && leb v 64) (right (putRow labels k w, set widths k v) l) (wrong 3))
+    (omega arith) (choice (leb 1 v && leb v 64) (right (putRow labels k w, set widths k v) l) (wrong 3) tt (omega arith))
+
+path-short : (k : ℕ) (t : List ℕ × List ℕ) (l : List ℕ) → ShortLine (pathStep k t l)
+unfolding pathStep
+path-short k t l = path-means k (t .0) (t .1) (pathLine l)
+
+guard-cell : (n i j g : ℕ) (guards l : List ℕ) → ShortLine (guardCell n i j g guards l)
+unfolding guardCell
+guard-cell n i j g guards l = go (ltb i n && ltb j n && not (eqb i j)) (eqb (at guards (cell i j)) 255) (leb g 32)
+  where
+    go : (a b d : Bool) → ShortLine (cond a (cond b (cond d (right (set (set guards (cell i j) g) (cell j i) g) l) (wrong 4)) (wrong 14)) (wrong 13))
+    go true true true = tt
+    go true true false = omega arith
+    go true false d = omega arith
+    go false b d = omega arith
+
+guard-means : (n : ℕ) (labels guards : List ℕ) (p : Parsed (List ℕ × (List ℕ × ℕ))) → ShortLine (guardMeans n labels guards p)
+unfolding guardMeans
+guard-means n labels guards none = omega arith
+guard-means n labels guards (some t l) = guard-cell n (find labels n (t .0)) (find labels n (t .1 .0)) (t .1 .1) guards l
+
+guard-short : (n : ℕ) (labels : List ℕ) (k : ℕ) (guards l : List ℕ) → ShortLine (guardStep n labels k guards l)
+unfolding guardStep
+guard-short n labels k guards l = guard-means n labels guards (guardLine l)
+
+start-means : (labels : List ℕ) (k : ℕ) (starts : List ℕ) (p : Parsed (List ℕ × ℕ)) → ShortLine (startMeans labels k starts p)
+unfolding startMeans
+start-means labels k starts none = omega arith
+start-means labels k starts (some t l) = go (isRow labels (t .0) k) (leb 1 (t .1) && leb (t .1) 16384)
+  where
+    go : (a b : Bool) → ShortLine (cond a (cond b (right (set starts k (t .1)) l) (wrong 7)) (wrong 13))
+    go true true = tt
+    go true false = omega arith
+    go false b = omega arith
+
+start-short : (labels : List ℕ) (k : ℕ) (starts l : List ℕ) → ShortLine (startStep labels k starts l)
+unfolding startStep
+start-short labels k starts l = start-means labels k starts (pathLine l)
+
+follow-short : {T : Type 0} (x : Line T) (line : ℕ) (go : T → List ℕ → Section T) → ShortLine x → line < 100000
+    → ((t : T) (l : List ℕ) → Short (go t l)) → Short (follow x line go)
+unfolding follow
+follow-short (wrong number) line go s b h = (s, b)
+follow-short (right t l) line go s b h = h t l
+
+lines-short : {T : Type 0} (step : ℕ → T → List ℕ → Line T) → ((k : ℕ) (t : T) (l : List ℕ) → ShortLine (step k t l)) → (top m k : ℕ) (t : T) (l : List ℕ)
+    → top + k + m < 100000 → Short (lines step top m k t l)
+unfolding lines
+lines-short step s top zero k t l b = tt
+lines-short step s top (suc m) k t l b =
+    follow-short (step k t l) (top + k) (λ t′ l′. lines step top m (suc k) t′ l′) (s k t l) (omega arith)
+    (λ t′ l′. lines-short step s top m (suc k) t′ l′ (omega arith))
+
+counted-short : {T : Type 0} (p : Parsed ℕ) (isRight : ℕ → Bool) (line : ℕ) (go : ℕ → List ℕ → Section T) → line < 100000
+    → ((n : ℕ) (l : List ℕ) → isRight n ≡ true → Short (go n l)) → Short (counted p isRight line go)
+unfolding counted
+counted-short none isRight line go b h = (omega arith, b)
+counted-short (some n l) isRight line go b h = pick (isRight n) refl
+  where
+    pick : (x : Bool) → isRight n ≡ x → Short (cond x (go n l) (halt 1 line))
+    pick true e = h n l e
+    pick false e = (omega arith, b)
+
+after-short : {T U : Type 0} (x : Section T) (go : T → List ℕ → Section U) → Short x → ((t : T) (l : List ℕ) → Short (go t l)) → Short (after x go)
+unfolding after
+after-short (halt number line) go s h = s
+after-short (done t l) go s h = h t l
+
+ended-short : {T : Type 0} (line : ℕ) (t : T) (l : List ℕ) → line < 100000 → Short (ended line t l)
+unfolding ended
+ended-short line t [] b = tt
+ended-short line t (x ∷ l) b = (omega arith, b)
+
+starts-short : (n line : ℕ) (labels starts l : List ℕ) → n ≤ 128 → line ≤ 3000 → Short (startsPart n line labels starts l)
+unfolding startsPart
+starts-short n line labels starts [] p q = tt
+starts-short n line labels starts (x ∷ l) p q =
+    counted-short (countLine startsWord (x ∷ l)) (λ m. eqb m n) line
+    (λ m l₁. after (lines (startStep labels) (line + 1) n 0 starts l₁) (λ t l₂. ended (line + 1 + n) t l₂)) (omega arith)
+    (λ m l₁ e. after-short (lines (startStep labels) (line + 1) n 0 starts l₁) (λ t l₂. ended (line + 1 + n) t l₂)
+    (lines-short (startStep labels) (start-short labels) (line + 1) n 0 starts l₁ (omega arith)) (λ t l₂. ended-short (line + 1 + n) t l₂ (omega arith)))
+
+guards-short : (n : ℕ) (labels guards starts l : List ℕ) → n ≤ 128 → Short (guardsPart n labels guards starts l)
+unfolding guardsPart
+guards-short n labels guards starts l p =
+    counted-short (countLine guardsWord l) (λ m. leb m 2000) (n + 2)
+    (λ m l₁. after (lines (guardStep n labels) (n + 3) m 0 guards l₁) (λ t l₂. after (startsPart n (n + m + 3) labels starts l₂) (λ u l₃. done (t, u) l₃)))
+    (omega arith)
+    (λ m l₁ e. let q = leb-true m 2000 e in after-short (lines (guardStep n labels) (n + 3) m 0 guards l₁)
+    (λ t l₂. after (startsPart n (n + m + 3) labels starts l₂) (λ u l₃. done (t, u) l₃))
+    (lines-short (guardStep n labels) (guard-short n labels) (n + 3) m 0 guards l₁ (omega (arith, q)))
+    (λ t l₂. after-short (startsPart n (n + m + 3) labels starts l₂) (λ u l₃. done (t, u) l₃)
+    (starts-short n (n + m + 3) labels starts l₂ p (omega (arith, q))) (λ u l₃. tt)))
+
+pub and-right : (a b : Bool) → (a && b) ≡ true → b ≡ true
+and-right true b e = e
+and-right false b e = absurd (true≢false (sym e))
+
+sheet-short : (labels widths guards starts l : List ℕ) → Short (sheetFrom labels widths guards starts l)
+unfolding sheetFrom
+sheet-short labels widths guards starts l =
+    counted-short (countLine pathsWord l) (λ n. leb 1 n && leb n 128) 1
+    (λ n l₁. after (lines pathStep 2 n 0 (labels, widths) l₁) (λ t l₂. after (guardsPart n (t .0) guards starts l₂) (λ u l₃. done (n, t .0, t .1, u .0, u .1) [])))
+    (omega arith)
+    (λ n l₁ e. let q = leb-true n 128 (and-right (leb 1 n) (leb n 128) e) in after-short (lines pathStep 2 n 0 (labels, widths) l₁)
+    (λ t l₂. after (guardsPart n (t .0) guards starts l₂) (λ u l₃. done (n, t .0, t .1, u .0, u .1) []))
+    (lines-short pathStep path-short 2 n 0 (labels, widths) l₁ (omega (arith, q)))
+    (λ t l₂. after-short (guardsPart n (t .0) guards starts l₂) (λ u l₃. done (n, t .0, t .1, u .0, u .1) [])
+    (guards-short n (t .0) guards starts l₂ q) (λ u l₃. tt)))
+
+outcome-short : (x : Section (ℕ × List ℕ × List ℕ × List ℕ × List ℕ)) → Short x → (readOutcome x .answer .number < 100000) × (readOutcome x .answer .place < 100000)
+unfolding readOutcome
+outcome-short (halt number line) s = s
+outcome-short (done t l) s = (omega arith, omega arith)
+
+-- tables of their sizes are read over alike, whatever stands in them
+sizes-none : (labels widths guards starts : List ℕ) → length labels ≡ 1024 → length widths ≡ 128 → length guards ≡ 16384 → length starts ≡ 128
+    → sheetSizes labels widths guards starts ≡ noFault
+unfolding sheetSizes networkSizes _orElse_
+sizes-none labels widths guards starts a b c d = rw (← size-good labels 1024 a, ← size-good widths 128 b, ← size-good guards 16384 c, ← size-good starts 128 d)
+
+pub reading-even : (text labels widths guards starts : List ℕ) → length labels ≡ 1024 → length widths ≡ 128 → length guards ≡ 16384 → length starts ≡ 128
+    → reading text labels widths guards starts ≡ readOutcome (sheetFrom (cleared 1024 0) (cleared 128 0) (cleared 16384 255) (cleared 128 0) text)
+unfolding reading unless
+reading-even text labels widths guards starts a b c d = rw (sizes-none labels widths guards starts a b c d)
+
+module _ (input labels widths guards starts : List ℕ) (a : length labels ≡ 1024) (b : length widths ≡ 128) (c : length guards ≡ 16384) (d : length starts ≡ 128)
+    (r : SheetRead) (labels′ widths′ guards′ starts′ : List ℕ)
+    (e : _≡_ {A = Left SheetRead Tables} (left r (labels′, widths′, guards′, starts′)) (reading input labels widths guards starts)) where
+  same : _≡_ {A = Left SheetRead Tables} (left r (labels′, widths′, guards′, starts′)) (reading input (cleared 1024 0) (cleared 128 0) (cleared 16384 0) (cleared 128 0))
+  same = e ∙ reading-even input labels widths guards starts a b c d
+      ∙ sym (reading-even input (cleared 1024 0) (cleared 128 0) (cleared 16384 0) (cleared 128 0) (cleared-length 1024 0) (cleared-length 128 0) (cleared-length 16384 0) (cleared-length 128 0))
+
+  pub short-refusal : (r .number < 100000) × (r .place < 100000)
+  short-refusal =
+      let x = sheetFrom (cleared 1024 0) (cleared 128 0) (cleared 16384 255) (cleared 128 0) input in
+      let q = e ∙ reading-even input labels widths guards starts a b c d in
+      let s = outcome-short x (sheet-short (cleared 1024 0) (cleared 128 0) (cleared 16384 255) (cleared 128 0) input) in
+      let p₁ : r .number ≡ readOutcome x .answer .number = ap (λ (w : Left SheetRead Tables). w .answer .number) q in
+      let p₂ : r .place ≡ readOutcome x .answer .place = ap (λ (w : Left SheetRead Tables). w .answer .place) q in
+      (omega (arith, p₁, s .0), omega (arith, p₂, s .1))
+
+  pub prints-refusal : r .number ≢ 0 → refusalText (r .number) (r .place) ≡ printed input
+  unfolding printed
+  prints-refusal z = sym (rw (← same, ne-eqb (r .number) 0 z))
+
+  pub prints-plan : r .number ≡ 0 → plannedText (r .n) labels′ widths′ guards′ starts′ ≡ printed input
+  unfolding printed
+  prints-plan z = sym (rw (← same, eq-eqb (r .number) 0 z))
+
+-- what was written into the lent text at its front
+pub front : (out after w : List ℕ) (r : ℕ) → (r ≡ 0 + length w) × (after ≡ sets out 0 w) → length w ≤ length out → take r after ≡ w
+front out after w r h l =
+    let e : r ≡ length w = omega (arith, h .0) in
+    let v : after ≡ w ++ drop (length w) out = h .1 ∙ sets-eq w out 0 (omega arith) ∙ ap (λ (k : ℕ). w ++ drop k out) (let g : 0 + length w ≡ length w = omega arith in g) in
+    rw (e, v) (take-append-seam w (drop (length w) out))
+
+-- the sheet that is written does not depend on what stood in the lent text
+abbrev sheetOf : Left SheetWritten (List ℕ) → List ℕ
+sheetOf w = take (w .answer .length) (w .tables)
+
+abbrev outcome : Bool → Fault → List ℕ → List ℕ → Left SheetWritten (List ℕ)
+outcome b f s text = cond b (left (record { number = 0; place = 0; length = length s }) (s ++ drop (length s) text)) (left (record { number = f .number; place = f .place; length = 0 }) text)
+
+module _ (n : ℕ) (labels widths guards starts : List ℕ) where
+  fault-even : (text other : List ℕ) → length text ≡ length other → writeFault n labels widths guards starts text ≡ writeFault n labels widths guards starts other
+  unfolding writeFault
+  fault-even text other e = rw e
+
+  writing-is : (text : List ℕ) → writing n labels widths guards starts text
+      ≡ outcome (eqb (writeFault n labels widths guards starts text .number) 0) (writeFault n labels widths guards starts text) (sheetText n labels widths guards starts) text
+  unfolding writing unless
+  writing-is text = refl
+
+  written-even : (text other : List ℕ) → length text ≡ length other → sheetOf (writing n labels widths guards starts text) ≡ sheetOf (writing n labels widths guards starts other)
+  written-even text other e =
+      rw (writing-is text, writing-is other, fault-even text other e)
+      (go (sheetText n labels widths guards starts) (writeFault n labels widths guards starts other) (eqb (writeFault n labels widths guards starts other .number) 0))
+    where
+      go : (s : List ℕ) (f : Fault) (b : Bool) → sheetOf (outcome b f s text) ≡ sheetOf (outcome b f s other)
+      go s f true = take-append-seam s (drop (length s) text) ∙ sym (take-append-seam s (drop (length s) other))
+      go s f false = refl
+
+  fits : (text : List ℕ) → writeFault n labels widths guards starts text .number ≡ 0 → length (sheetText n labels widths guards starts) ≤ length text
+  unfolding writeFault
+  fits text z =
+      let g = or-clear _ _ (or-clear _ _ (or-clear _ _ (or-clear _ _ (or-clear _ _ (or-clear _ _ z .1) .1) .1) .1) .1) .1 in
+      ltb-false (length text) (length (sheetText n labels widths guards starts))
+      (refuse-clear (ltb (length text) (length (sheetText n labels widths guards starts))) 16 0 (omega arith) g)
+
+  written-short : (text : List ℕ) → writing n labels widths guards starts text .answer .length ≤ length text
+  written-short text =
+      rw (writing-is text) (go (writeFault n labels widths guards starts text) refl (eqb (writeFault n labels widths guards starts text .number) 0) refl)
+    where
+      go : (f : Fault) → writeFault n labels widths guards starts text ≡ f → (b : Bool) → eqb (writeFault n labels widths guards starts text .number) 0 ≡ b
+          → outcome b f (sheetText n labels widths guards starts) text .answer .length ≤ length text
+      go f p true q = fits text (eqb-true (writeFault n labels widths guards starts text .number) 0 q)
+      go f p false q = omega arith
+
+pub prints-sheet : (n : ℕ) (labels widths guards starts order order′ starts′ out out′ : List ℕ) (p : Planned) (w : SheetWritten) → order ≡ cleared 128 0 → length out ≡ 45489
+    → _≡_ {A = Left Planned (List ℕ × List ℕ)} (left p (order′, starts′)) (planning n widths guards order starts 1 1000)
+    → _≡_ {A = Left SheetWritten (List ℕ)} (left w out′) (writing n labels widths guards starts′ out)
+    → take (w .length) out′ ≡ plannedText n labels widths guards starts
+unfolding plannedText
+prints-sheet n labels widths guards starts order order′ starts′ out out′ p w z h e f =
+    let g : starts′ ≡ planning n widths guards (cleared 128 0) starts 1 1000 .tables .1
+    = ap (λ (x : Left Planned (List ℕ × List ℕ)). x .tables .1) e ∙ ap (λ (o : List ℕ). planning n widths guards o starts 1 1000 .tables .1) z in
+    ap sheetOf f ∙ written-even n labels widths guards starts′ out (cleared 45489 0) (h ∙ sym (cleared-length 45489 0)) ∙ ap (λ (s : List ℕ). sheetOf (writing n labels widths guards s (cleared 45489 0))) g
+
+pub prints-within : (n : ℕ) (labels widths guards starts out out′ : List ℕ) (w : SheetWritten) → length out ≡ 45489
+    → _≡_ {A = Left SheetWritten (List ℕ)} (left w out′) (writing n labels widths guards starts out) → w .length ≤ 45489
+prints-within n labels widths guards starts out out′ w h f =
+    let e : w .length ≡ writing n labels widths guards starts out .answer .length = ap (λ (x : Left SheetWritten (List ℕ)). x .answer .length) f in
+    omega (arith, e, h, written-short n labels widths guards starts out)
+
+pub blank-order : replicate 128 0 ≡ cleared 128 0
+unfolding cleared
+blank-order = refl
+
+-- how long a refusal's line is
+pub refusal-length : (number line : ℕ) → length (refusalText number line) ≡ 8 + length (numeral number) + 6 + length (numeral line) + 1
+unfolding refusalText
+refusal-length number line =
+    omega (arith, length-append (numeral number) (bytes " line " ++ (numeral line ++ lineFeed)), length-append (numeral line) lineFeed)
+
+pub refusal-within : (number line : ℕ) → number < 100000 → line < 100000 → length (refusalText number line) ≤ 45489
+refusal-within number line a b = omega (arith, refusal-length number line, digits-few number a, digits-few line b)
+
+-- the pieces of a refusal's line, one after the other
+pub refusal-wrote : (number line : ℕ) (l₀ l₁ l₂ l₃ l₄ l₅ : List ℕ) (p q e f r : ℕ) → (p ≡ 0 + 8) × (l₁ ≡ sets l₀ 0 (bytes "refused ")) → (q ≡ p + length (numeral number)) × (l₂ ≡ sets l₁ p (numeral number))
+    → (e ≡ q + 6) × (l₃ ≡ sets l₂ q (bytes " line ")) → (f ≡ e + length (numeral line)) × (l₄ ≡ sets l₃ e (numeral line)) → (r ≡ f + 1) × (l₅ ≡ sets l₄ f lineFeed)
+    → (r ≡ 0 + length (refusalText number line)) × (l₅ ≡ sets l₀ 0 (refusalText number line))
+unfolding refusalText
+refusal-wrote number line l₀ l₁ l₂ l₃ l₄ l₅ p q e f r h₁ h₂ h₃ h₄ h₅ =
+    both-pieces l₀ l₁ l₅ 0 p r (bytes "refused ") (numeral number ++ (bytes " line " ++ (numeral line ++ lineFeed))) h₁
+    (both-pieces l₁ l₂ l₅ p q r (numeral number) (bytes " line " ++ (numeral line ++ lineFeed)) h₂
+    (both-pieces l₂ l₃ l₅ q e r (bytes " line ") (numeral line ++ lineFeed) h₃ (both-pieces l₃ l₄ l₅ e f r (numeral line) lineFeed h₄ h₅)))
