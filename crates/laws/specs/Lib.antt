@@ -46,3 +46,4 @@ pub mod Arranging
 pub mod Clash
 pub mod Growing
 pub mod Spreading
+pub mod FirstBytes
