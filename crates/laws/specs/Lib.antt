@@ -47,3 +47,4 @@ pub mod Clash
 pub mod Growing
 pub mod Spreading
 pub mod ReadBack
+pub mod FirstBytes
