@@ -313,6 +313,41 @@ fn sheets(random: &mut Random) {
     println!("the longest sheet / plain Rust of the same rules: reading {:.2}, writing {:.2} (goal: at most 1.50)", read / plain_read, write / plain_write);
 }
 
+// One run of a program on a sheet: its output and its seconds, process and all.
+fn run(program: &str, input: &str) -> (Vec<u8>, f64) {
+    let began = Instant::now();
+    let file = std::fs::File::open(input).expect("the sheet");
+    let out = std::process::Command::new(program).stdin(file).output().expect("the program");
+    (out.stdout, began.elapsed().as_secs_f64())
+}
+
+fn programs(random: &mut Random) {
+    println!("  n  conflicts  the plan program / plain Rust, whole process");
+    for n in [7, 40, 128] {
+        for percent in [5, 24] {
+            let net = network(n, if n == 128 { percent } else { 4 * percent }, random);
+            let mut t = sheet::Tables::cleared();
+            (t.n, t.widths, t.guards) = (n, net.widths, net.guards);
+            for k in 0..n {
+                t.labels[8 * k..8 * k + 8].copy_from_slice(format!("PATH-{:03}", k).as_bytes());
+            }
+            let mut text = Vec::new();
+            sheet::write(&t, &mut text).ok().expect("the tables are right");
+            std::fs::write("target/bench/input.sheet", &text).expect("target/bench");
+            let mut least = [f64::INFINITY; 2];
+            for _ in 0..30 {
+                let (a, x) = run("target/bin/plan", "target/bench/input.sheet");
+                let (b, y) = run("target/bench/plain", "target/bench/input.sheet");
+                assert!(a == b, "the programs differ");
+                least = [least[0].min(x), least[1].min(y)];
+            }
+            let share = if n == 128 { percent } else { 4 * percent };
+            println!("{:>3} {:>8} % {:>43.2}", n, share, least[0] / least[1]);
+        }
+    }
+    println!("goals: at most 0.25 at 128 and 24 % (the most that a sheet holds), never above 1.20");
+}
+
 fn main() {
     let packers: [Packer; 4] = [library, look_back, engine, push];
     let mut random = Random(0x9E3779B97F4A7C15);
@@ -342,4 +377,5 @@ fn main() {
     println!("goals at 128 and 50 %: at most 0.25, and at most 1.20");
     improving(&mut random);
     sheets(&mut random);
+    programs(&mut random);
 }
