@@ -7,8 +7,6 @@ use denote.Ref.{now}
 use Rattle.plan.proofs.Keeping.{Keeping, keep-first, keep-more, keep-full, keep-end}
 use Rattle.plan.proofs.keep.Statement.{statement}
 use Rattle.plan.proofs.keep.Tie as tie
-use Rattle.plan.proofs.keep.Reads as reads
-use Rattle.plan.proofs.keep.Lts as lts
 
 abbrev Inv-loop : tie.InvT-loop
 Inv-loop text₀ have came k₀ j₀ text k j = Keeping text₀ have came text k j
@@ -16,47 +14,36 @@ Inv-loop text₀ have came k₀ j₀ text k j = Keeping text₀ have came text k
 abbrev μ-loop : tie.MeasureT-loop
 μ-loop text₀ have came k₀ j₀ text k j = length came - j
 
--- src/main.rt:25:5
 loop-holds : tie.Need-loop-holds Inv-loop μ-loop
 loop-holds c = keep-first (now (c .args .text)) (now (c .args .came)) (c .args .have) (c .pre)
 
--- src/main.rt:27:13
 same-length : tie.Need-same-length Inv-loop μ-loop
 same-length c = c .before .before .loop .inv .same
 
--- src/main.rt:27:13
 returns : tie.Need-returns Inv-loop μ-loop
 returns c = (omega (arith, c .before .before .loop .inv .same, c .before .before .loop .inv .within), keep-full (now (c .before .before .before .args .text)) (now (c .before .before .before .args .came)) (c .before .before .loop .text) (c .before .before .before .args .have) (c .before .before .loop .k) (c .before .before .loop .j) (c .before .before .loop .inv) (omega arith))
 
--- src/main.rt:29:19
 shared-slice-read-text : tie.Need-shared-slice-read-text Inv-loop μ-loop
 shared-slice-read-text c = search needs
 
--- src/main.rt:29:9
 slice-write-text : tie.Need-slice-write-text Inv-loop μ-loop
 slice-write-text c = search needs
 
--- src/main.rt:30:9
 add-k : tie.Need-add-k Inv-loop μ-loop
 add-k c = search needs
 
--- src/main.rt:31:9
 add-j : tie.Need-add-j Inv-loop μ-loop
 add-j c = search needs
 
--- src/main.rt:25:5
 loop-less : tie.Need-loop-less Inv-loop μ-loop
 loop-less c = search needs
 
--- src/main.rt:25:5
 loop-again : tie.Need-loop-again Inv-loop μ-loop
 loop-again c = keep-more (now (c .before .before .before .before .args .text)) (now (c .before .before .before .before .args .came)) (c .before .before .before .loop .text) (c .before .before .before .before .args .have) (c .before .before .before .loop .k) (c .before .before .before .loop .j) (c .before .before .before .loop .inv) (omega arith) (omega arith)
 
--- src/main.rt:19:1
 same-length-2 : tie.Need-same-length-2 Inv-loop μ-loop
 same-length-2 c = c .before .loop .inv .same
 
--- src/main.rt:19:1
 returns-2 : tie.Need-returns-2 Inv-loop μ-loop
 returns-2 c = (omega (arith, c .before .loop .inv .same, c .before .loop .inv .within), keep-end (now (c .before .before .args .text)) (now (c .before .before .args .came)) (c .before .loop .text) (c .before .before .args .have) (c .before .loop .k) (c .before .loop .j) (c .before .loop .inv) (omega arith))
 

@@ -5,48 +5,34 @@ use Rattle.laws.specs.Writes.{digits-few}
 use Rattle.plan.proofs.Prints.{refusal-wrote}
 use Rattle.plan.proofs.refuse.Statement.{statement}
 use Rattle.plan.proofs.refuse.Tie as tie
-use Rattle.plan.proofs.refuse.Reads as reads
-use Rattle.plan.proofs.refuse.Lts as lts
-use Rattle.text.proofs.put_number.Reads as put-number-reads
-use Rattle.text.proofs.put_word.Reads as put-word-reads
 
--- src/main.rt:73:36
 slice-aggregate-put-word : tie.Need-slice-aggregate-put-word
 slice-aggregate-put-word c = search needs
 
--- src/main.rt:73:9
 put-word-requires : tie.Need-put-word-requires
 put-word-requires c κs = search needs
 
--- src/main.rt:74:9
 put-number-requires : tie.Need-put-number-requires
 put-number-requires c κs = (c .before .before .before .before .before .before .before .pre .0, omega (arith, digits-few (c .before .before .before .before .before .before .before .args .number) (c .before .before .before .before .before .before .before .pre .0), digits-few (c .before .before .before .before .before .before .before .args .line) (c .before .before .before .before .before .before .before .pre .1), c .before .before .before .before .before .before .before .pre, c .before .before .before .put-word .ensures .0, c .before .before .before .put-word .kept))
 
--- src/main.rt:75:36
 slice-aggregate-put-word-2 : tie.Need-slice-aggregate-put-word-2
 slice-aggregate-put-word-2 c = search needs
 
--- src/main.rt:75:9
 put-word-requires-2 : tie.Need-put-word-requires-2
 put-word-requires-2 c κs = omega (arith, digits-few (c .before .before .before .before .before .before .before .before .before .before .before .before .args .number) (c .before .before .before .before .before .before .before .before .before .before .before .before .pre .0), digits-few (c .before .before .before .before .before .before .before .before .before .before .before .before .args .line) (c .before .before .before .before .before .before .before .before .before .before .before .before .pre .1), c .before .before .before .before .before .before .before .before .before .before .before .before .pre, c .before .before .before .before .put-number .ensures .0, c .before .before .before .before .put-number .kept, c .before .before .before .before .before .before .before .before .put-word .ensures .0, c .before .before .before .before .before .before .before .before .put-word .kept)
 
--- src/main.rt:76:9
 put-number-requires-2 : tie.Need-put-number-requires-2
 put-number-requires-2 c κs = (c .before .before .before .before .before .before .before .before .before .before .before .before .before .before .before .before .pre .1, omega (arith, digits-few (c .before .before .before .before .before .before .before .before .before .before .before .before .before .before .before .before .args .number) (c .before .before .before .before .before .before .before .before .before .before .before .before .before .before .before .before .pre .0), digits-few (c .before .before .before .before .before .before .before .before .before .before .before .before .before .before .before .before .args .line) (c .before .before .before .before .before .before .before .before .before .before .before .before .before .before .before .before .pre .1), c .before .before .before .before .before .before .before .before .before .before .before .before .before .before .before .before .pre, c .before .before .before .put-word2 .ensures .0, c .before .before .before .put-word2 .kept, c .before .before .before .before .before .before .before .before .put-number .ensures .0, c .before .before .before .before .before .before .before .before .put-number .kept, c .before .before .before .before .before .before .before .before .before .before .before .before .put-word .ensures .0, c .before .before .before .before .before .before .before .before .before .before .before .before .put-word .kept))
 
--- src/main.rt:77:28
 slice-aggregate-put-word-3 : tie.Need-slice-aggregate-put-word-3
 slice-aggregate-put-word-3 c = search needs
 
--- src/main.rt:77:5
 put-word-requires-3 : tie.Need-put-word-requires-3
 put-word-requires-3 c κs = omega (arith, digits-few (c .before .before .before .before .before .before .before .before .before .before .before .before .before .before .before .before .before .before .before .before .before .args .number) (c .before .before .before .before .before .before .before .before .before .before .before .before .before .before .before .before .before .before .before .before .before .pre .0), digits-few (c .before .before .before .before .before .before .before .before .before .before .before .before .before .before .before .before .before .before .before .before .before .args .line) (c .before .before .before .before .before .before .before .before .before .before .before .before .before .before .before .before .before .before .before .before .before .pre .1), c .before .before .before .before .before .before .before .before .before .before .before .before .before .before .before .before .before .before .before .before .before .pre, c .before .before .before .before .put-number2 .ensures .0, c .before .before .before .before .put-number2 .kept, c .before .before .before .before .before .before .before .before .put-word2 .ensures .0, c .before .before .before .before .before .before .before .before .put-word2 .kept, c .before .before .before .before .before .before .before .before .before .before .before .before .before .put-number .ensures .0, c .before .before .before .before .before .before .before .before .before .before .before .before .before .put-number .kept, c .before .before .before .before .before .before .before .before .before .before .before .before .before .before .before .before .before .put-word .ensures .0, c .before .before .before .before .before .before .before .before .before .before .before .before .before .before .before .before .before .put-word .kept)
 
--- src/main.rt:69:1
 same-length : tie.Need-same-length
 same-length c = search needs
 
--- src/main.rt:69:1
 returns : tie.Need-returns
 returns c = refusal-wrote (c .before .before .before .before .before .before .before .before .before .before .before .before .before .before .before .before .before .before .before .before .before .before .before .before .args .number) (c .before .before .before .before .before .before .before .before .before .before .before .before .before .before .before .before .before .before .before .before .before .before .before .before .args .line) (now (c .before .before .before .before .before .before .before .before .before .before .before .before .before .before .before .before .before .before .before .before .before .before .before .before .args .out)) (c .before .before .before .before .before .before .before .before .before .before .before .before .before .before .before .before .before .before .before .before .put-word .last .0) (c .before .before .before .before .before .before .before .before .before .before .before .before .before .before .before .before .put-number .last .0) (c .before .before .before .before .before .before .before .before .before .before .before .put-word2 .last .0) (c .before .before .before .before .before .before .before .put-number2 .last .0) (c .before .before .put-word3 .last .0) (c .before .before .before .before .before .before .before .before .before .before .before .before .before .before .before .before .before .before .before .before .put-word .result) (c .before .before .before .before .before .before .before .before .before .before .before .before .before .before .before .before .put-number .result) (c .before .before .before .before .before .before .before .before .before .before .before .put-word2 .result) (c .before .before .before .before .before .before .before .put-number2 .result) (c .before .before .put-word3 .result) (c .before .before .before .before .before .before .before .before .before .before .before .before .before .before .before .before .before .before .before .before .put-word .ensures) (c .before .before .before .before .before .before .before .before .before .before .before .before .before .before .before .before .put-number .ensures) (c .before .before .before .before .before .before .before .before .before .before .before .put-word2 .ensures) (c .before .before .before .before .before .before .before .put-number2 .ensures) (c .before .before .put-word3 .ensures)
 
