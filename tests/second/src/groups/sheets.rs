@@ -37,9 +37,21 @@ fn sheet_case(rng: &mut Rng, large: bool) -> Case {
     loop {
         let n = if large { rng.range(1, PATHS) } else { rng.range(1, 9) };
         let shape = rng.pick(&SHAPES);
-        let c = gen::case(rng, n, shape);
+        let mut c = gen::case(rng, n, shape);
         if c.network().conflicts().len() <= MAX_PAIRS {
+            starts_at_edges(rng, &mut c);
             return c;
+        }
+    }
+}
+
+/// Now and then a start that is the last of its number of digits or the first of the next. A
+/// sheet's plan need not be valid, so any start will do.
+fn starts_at_edges(rng: &mut Rng, c: &mut Case) {
+    const EDGES: [u16; 9] = [9, 10, 99, 100, 999, 1_000, 9_999, 10_000, MAX_START as u16];
+    for i in 0..c.n {
+        if rng.percent(20) {
+            c.starts[i] = rng.pick(&EDGES);
         }
     }
 }
