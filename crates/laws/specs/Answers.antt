@@ -14,7 +14,7 @@ use Rattle.rules.specs.declared.Packed.{Packed}
 use Rattle.rules.specs.declared.Sided.{Sided}
 use Rattle.rules.specs.declared.Planned.{Planned}
 use Rattle.rules.specs.declared.Floored.{Floored}
-use Rattle.rules.specs.Tables.{at}
+use Rattle.rules.specs.Tables.{at, Lent}
 use Rattle.rules.specs.Limits.{Network, Starts}
 use Rattle.rules.specs.Scan.{found}
 use Rattle.rules.specs.Plan.{Net, netOf, Conflict, inConflict, Valid}
@@ -59,13 +59,13 @@ sized : (table : List ℕ) (size : ℕ) → length table ≡ size → sizeFault 
 sized table size e = ap (λ (x : Fault). x .number) (sym (size-good table size e))
 
 -- judging and pressing
-pub record Judgeable (n : ℕ) (widths guards starts : List ℕ) : Type 0 where
-  pub network : Network n widths guards
+pub record Judgeable (n : ℕ) (lent : Lent) (starts : List ℕ) : Type 0 where
+  pub network : Network n lent
   pub legal : Starts n starts
-  pub valid : Valid (netOf widths guards) n (at starts)
+  pub valid : Valid (netOf lent) n (at starts)
 
-module _ (n : ℕ) (widths guards starts : List ℕ) where
-  pub judge-clear : judgeFault n widths guards starts .number ≡ 0 → Judgeable n widths guards starts
+module _ (n : ℕ) (lent : Lent) (starts : List ℕ) where
+  pub judge-clear : judgeFault n lent starts .number ≡ 0 → Judgeable n lent starts
   unfolding judgeFault
   judge-clear z =
       let a = or-clear _ _ z in
@@ -74,43 +74,43 @@ module _ (n : ℕ) (widths guards starts : List ℕ) where
       let d = or-clear _ _ (c .1) in
       let s = starts-within n starts (size-clear starts 128 (b .0)) (d .0) in
       record {
-        network = network-within n widths guards (a .0) (c .0);
+        network = network-within n lent (a .0) (c .0);
         legal = s;
-        valid = clash-valid n (netOf widths guards) starts (λ k l. s .start k l .0) (d .1);
+        valid = clash-valid n (netOf lent) starts (λ k l. s .start k l .0) (d .1);
       }
 
-  pub clear-judge : Judgeable n widths guards starts → judgeFault n widths guards starts .number ≡ 0
+  pub clear-judge : Judgeable n lent starts → judgeFault n lent starts .number ≡ 0
   unfolding judgeFault
   clear-judge j =
-      let w = within-network n widths guards (j .network) in
+      let w = within-network n lent (j .network) in
       or-none _ _ (w .0) (or-none _ _ (sized starts 128 (j .legal .size)) (or-none _ _ (w .1)
-      (or-none _ _ (within-starts n starts (j .legal)) (valid-clash n (netOf widths guards) starts (j .valid)))))
+      (or-none _ _ (within-starts n starts (j .legal)) (valid-clash n (netOf lent) starts (j .valid)))))
 
-  pub judging-judgeable : judging n widths guards starts .number ≡ 0 → Judgeable n widths guards starts
+  pub judging-judgeable : judging n lent starts .number ≡ 0 → Judgeable n lent starts
   unfolding judging
-  judging-judgeable z = judge-clear (unless-clear (λ (r : Judged). r .number) (judgeFault n widths guards starts) _ _ refl z)
+  judging-judgeable z = judge-clear (unless-clear (λ (r : Judged). r .number) (judgeFault n lent starts) _ _ refl z)
 
-  pub judgeable-judging : Judgeable n widths guards starts → judging n widths guards starts .number ≡ 0
+  pub judgeable-judging : Judgeable n lent starts → judging n lent starts .number ≡ 0
   unfolding judging
-  judgeable-judging j = ap (λ (r : Judged). r .number) (unless-done (judgeFault n widths guards starts) _ _ (clear-judge j))
+  judgeable-judging j = ap (λ (r : Judged). r .number) (unless-done (judgeFault n lent starts) _ _ (clear-judge j))
 
-  pub pressing-judgeable : pressing n widths guards starts .answer .number ≡ 0 → Judgeable n widths guards starts
+  pub pressing-judgeable : pressing n lent starts .answer .number ≡ 0 → Judgeable n lent starts
   unfolding pressing refusedPacked
-  pressing-judgeable z = judge-clear (unless-clear (λ (r : Left Packed (List ℕ)). r .answer .number) (judgeFault n widths guards starts) (refusedPacked starts) _ refl z)
+  pressing-judgeable z = judge-clear (unless-clear (λ (r : Left Packed (List ℕ)). r .answer .number) (judgeFault n lent starts) (refusedPacked starts) _ refl z)
 
-  pub judgeable-pressing : Judgeable n widths guards starts → pressing n widths guards starts ≡ donePacked (netOf widths guards) n (pressed (netOf widths guards) n starts)
+  pub judgeable-pressing : Judgeable n lent starts → pressing n lent starts ≡ donePacked (netOf lent) n (pressed (netOf lent) n starts)
   unfolding pressing
-  judgeable-pressing j = unless-done (judgeFault n widths guards starts) (refusedPacked starts) _ (clear-judge j)
+  judgeable-pressing j = unless-done (judgeFault n lent starts) (refusedPacked starts) _ (clear-judge j)
 
 -- packing
-pub record Packable (n : ℕ) (widths guards order starts : List ℕ) : Type 0 where
-  pub network : Network n widths guards
+pub record Packable (n : ℕ) (lent : Lent) (order starts : List ℕ) : Type 0 where
+  pub network : Network n lent
   pub orderSize : length order ≡ 128
   pub startsSize : length starts ≡ 128
   pub whole : Order (at order) n n
 
-module _ (n : ℕ) (widths guards order starts : List ℕ) where
-  pub pack-clear : packFault n widths guards order starts .number ≡ 0 → Packable n widths guards order starts
+module _ (n : ℕ) (lent : Lent) (order starts : List ℕ) where
+  pub pack-clear : packFault n lent order starts .number ≡ 0 → Packable n lent order starts
   unfolding packFault
   pack-clear z =
       let a = or-clear _ _ z in
@@ -118,45 +118,45 @@ module _ (n : ℕ) (widths guards order starts : List ℕ) where
       let c = or-clear _ _ (b .1) in
       let d = or-clear _ _ (c .1) in
       record {
-        network = network-within n widths guards (a .0) (d .0);
+        network = network-within n lent (a .0) (d .0);
         orderSize = size-clear order 128 (b .0);
         startsSize = size-clear starts 128 (c .0);
         whole = order-whole n order (d .1);
       }
 
-  pub clear-pack : Packable n widths guards order starts → packFault n widths guards order starts .number ≡ 0
+  pub clear-pack : Packable n lent order starts → packFault n lent order starts .number ≡ 0
   unfolding packFault
   clear-pack p =
-      let w = within-network n widths guards (p .network) in
+      let w = within-network n lent (p .network) in
       or-none _ _ (w .0) (or-none _ _ (sized order 128 (p .orderSize)) (or-none _ _ (sized starts 128 (p .startsSize))
       (or-none _ _ (w .1) (whole-order n order (p .whole)))))
 
-  pub packing-packable : packing n widths guards order starts .answer .number ≡ 0 → Packable n widths guards order starts
+  pub packing-packable : packing n lent order starts .answer .number ≡ 0 → Packable n lent order starts
   unfolding packing refusedPacked
-  packing-packable z = pack-clear (unless-clear (λ (r : Left Packed (List ℕ)). r .answer .number) (packFault n widths guards order starts) (refusedPacked starts) _ refl z)
+  packing-packable z = pack-clear (unless-clear (λ (r : Left Packed (List ℕ)). r .answer .number) (packFault n lent order starts) (refusedPacked starts) _ refl z)
 
-  pub packable-packing : Packable n widths guards order starts
-      → packing n widths guards order starts ≡ donePacked (netOf widths guards) n (packed (lowest (netOf widths guards)) (at order) starts n)
+  pub packable-packing : Packable n lent order starts
+      → packing n lent order starts ≡ donePacked (netOf lent) n (packed (lowest (netOf lent)) (at order) starts n)
   unfolding packing
-  packable-packing p = unless-done (packFault n widths guards order starts) (refusedPacked starts) _ (clear-pack p)
+  packable-packing p = unless-done (packFault n lent order starts) (refusedPacked starts) _ (clear-pack p)
 
 -- the two-sided call: 9 is its last test
-pub record Sidable (n : ℕ) (widths guards order : List ℕ) : Type 0 where
-  pub network : Network n widths guards
+pub record Sidable (n : ℕ) (lent : Lent) (order : List ℕ) : Type 0 where
+  pub network : Network n lent
   pub orderSize : length order ≡ 128
 
-module _ (n : ℕ) (widths guards order : List ℕ) where
+module _ (n : ℕ) (lent : Lent) (order : List ℕ) where
   abbrev net : Net
-  net = netOf widths guards
+  net = netOf lent
 
   -- the tests before 9, and none of them answers 9
-  sides-clear : (x : ℕ) → (x ≡ 0) ⊎ (x ≡ 9) → twoSidesFault n widths guards order .number ≡ x → Sidable n widths guards order × (sidesFault n net .number ≡ x)
+  sides-clear : (x : ℕ) → (x ≡ 0) ⊎ (x ≡ 9) → twoSidesFault n lent order .number ≡ x → Sidable n lent order × (sidesFault n net .number ≡ x)
   unfolding twoSidesFault
   sides-clear x h z =
-      let a = or-past _ _ x (never-sizes widths guards x (λ e. two h e)) z in
+      let a = or-past _ _ x (never-sizes lent x (λ e. two h e)) z in
       let b = or-past _ _ x (never-size order 128 x (λ e. two h e)) (a .1) in
-      let c = or-past _ _ x (never-network n widths guards x (below h)) (b .1) in
-      (record { network = network-within n widths guards (a .0) (c .0); orderSize = size-clear order 128 (b .0) }, c .1)
+      let c = or-past _ _ x (never-network n lent x (below h)) (b .1) in
+      (record { network = network-within n lent (a .0) (c .0); orderSize = size-clear order 128 (b .0) }, c .1)
     where
       two : (x ≡ 0) ⊎ (x ≡ 9) → x ≡ 2 → ⊥
       two (inl e) f = omega arith
@@ -166,17 +166,17 @@ module _ (n : ℕ) (widths guards order : List ℕ) where
       below (inl e) = inl e
       below (inr e) = inr (omega arith)
 
-  pub clear-sides : Sidable n widths guards order → twoSidesFault n widths guards order ≡ sidesFault n net
+  pub clear-sides : Sidable n lent order → twoSidesFault n lent order ≡ sidesFault n net
   unfolding twoSidesFault
   clear-sides p =
-      let w = within-network n widths guards (p .network) in
+      let w = within-network n lent (p .network) in
       or-second _ _ (w .0) ∙ or-second _ _ (sized order 128 (p .orderSize)) ∙ or-second _ _ (w .1)
 
-  siding-number : siding n widths guards order .answer .number ≡ twoSidesFault n widths guards order .number
+  siding-number : siding n lent order .answer .number ≡ twoSidesFault n lent order .number
   unfolding siding
-  siding-number = unless-number (λ (r : Left Sided (List ℕ)). r .answer .number) (twoSidesFault n widths guards order) _ _ refl refl
+  siding-number = unless-number (λ (r : Left Sided (List ℕ)). r .answer .number) (twoSidesFault n lent order) _ _ refl refl
 
-  pub siding-done : siding n widths guards order .answer .number ≡ 0 → Sidable n widths guards order × (hasSides net n ≡ true)
+  pub siding-done : siding n lent order .answer .number ≡ 0 → Sidable n lent order × (hasSides net n ≡ true)
   siding-done z =
       let a = sides-clear 0 (inl refl) (sym siding-number ∙ z) in
       (a .0, has (a .1))
@@ -184,7 +184,7 @@ module _ (n : ℕ) (widths guards order : List ℕ) where
       has : sidesFault n net .number ≡ 0 → hasSides net n ≡ true
       has y = unfold sidesFault in (not-false _ (refuse-clear (not (hasSides net n)) 9 0 (omega arith) y))
 
-  pub siding-nine : siding n widths guards order .answer .number ≡ 9 → Sidable n widths guards order × (hasSides net n ≡ false)
+  pub siding-nine : siding n lent order .answer .number ≡ 9 → Sidable n lent order × (hasSides net n ≡ false)
   siding-nine z =
       let a = sides-clear 9 (inr refl) (sym siding-number ∙ z) in
       (a .0, lacks (hasSides net n) refl (a .1))
@@ -193,7 +193,7 @@ module _ (n : ℕ) (widths guards order : List ℕ) where
       lacks false e y = e
       lacks true e y = unfold sidesFault in (absurd (omega (arith, rw e at y, ap (λ (x : Fault). x .number) (refuse-not false 9 0 refl))))
 
-  pub sidable-number : Sidable n widths guards order → siding n widths guards order .answer .number ≡ cond (hasSides net n) 0 9
+  pub sidable-number : Sidable n lent order → siding n lent order .answer .number ≡ cond (hasSides net n) 0 9
   unfolding sidesFault
   sidable-number p = siding-number ∙ ap (λ (x : Fault). x .number) (clear-sides p) ∙ go (hasSides net n)
     where
@@ -201,37 +201,37 @@ module _ (n : ℕ) (widths guards order : List ℕ) where
       go true = ap (λ (x : Fault). x .number) (refuse-not false 9 0 refl)
       go false = ap (λ (x : Fault). x .number) (refuse-bad true 9 0 refl)
 
-  pub sidable-siding : Sidable n widths guards order → hasSides net n ≡ true
-      → siding n widths guards order ≡ left (record { number = 0; place = 0; low = lowSide n (isHigh net n) }) (twoSided n (isHigh net n) order)
+  pub sidable-siding : Sidable n lent order → hasSides net n ≡ true
+      → siding n lent order ≡ left (record { number = 0; place = 0; low = lowSide n (isHigh net n) }) (twoSided n (isHigh net n) order)
   unfolding siding
-  sidable-siding p e = unless-done (twoSidesFault n widths guards order) _ _ (sym siding-number ∙ sidable-number p ∙ rw e)
+  sidable-siding p e = unless-done (twoSidesFault n lent order) _ _ (sym siding-number ∙ sidable-number p ∙ rw e)
 
 -- improving and planning
-module _ (n : ℕ) (widths guards order starts : List ℕ) (seed rounds : ℕ) where
-  pub improving-packable : improving n widths guards order starts seed rounds .answer .number ≡ 0 → Packable n widths guards order starts × (rounds ≤ 10000)
+module _ (n : ℕ) (lent : Lent) (order starts : List ℕ) (seed rounds : ℕ) where
+  pub improving-packable : improving n lent order starts seed rounds .answer .number ≡ 0 → Packable n lent order starts × (rounds ≤ 10000)
   unfolding improving improveFault refusedPlanned roundsFault
   improving-packable z =
-      let a = or-clear _ _ (unless-clear (λ (r : Left Planned (List ℕ × List ℕ)). r .answer .number) (packFault n widths guards order starts orElse roundsFault rounds) (refusedPlanned order starts) _ refl z) in
-      (pack-clear n widths guards order starts (a .0), ltb-false 10000 rounds (refuse-clear (ltb 10000 rounds) 10 0 (omega arith) (a .1)))
+      let a = or-clear _ _ (unless-clear (λ (r : Left Planned (List ℕ × List ℕ)). r .answer .number) (packFault n lent order starts orElse roundsFault rounds) (refusedPlanned order starts) _ refl z) in
+      (pack-clear n lent order starts (a .0), ltb-false 10000 rounds (refuse-clear (ltb 10000 rounds) 10 0 (omega arith) (a .1)))
 
-  pub packable-improving : Packable n widths guards order starts → rounds ≤ 10000
-      → improving n widths guards order starts seed rounds ≡ doneImproved (netOf widths guards) n order starts seed rounds
+  pub packable-improving : Packable n lent order starts → rounds ≤ 10000
+      → improving n lent order starts seed rounds ≡ doneImproved (netOf lent) n order starts seed rounds
   unfolding improving improveFault roundsFault
   packable-improving p l =
-      unless-done (packFault n widths guards order starts orElse refuseIf (ltb 10000 rounds) 10 0) (refusedPlanned order starts) _
-      (or-none _ _ (clear-pack n widths guards order starts p) (ap (λ (x : Fault). x .number) (refuse-not (ltb 10000 rounds) 10 0 (le-ltb 10000 rounds l))))
+      unless-done (packFault n lent order starts orElse refuseIf (ltb 10000 rounds) 10 0) (refusedPlanned order starts) _
+      (or-none _ _ (clear-pack n lent order starts p) (ap (λ (x : Fault). x .number) (refuse-not (ltb 10000 rounds) 10 0 (le-ltb 10000 rounds l))))
 
-  pub packable-improves : Packable n widths guards order starts → rounds ≤ 10000 → improving n widths guards order starts seed rounds .answer .number ≡ 0
+  pub packable-improves : Packable n lent order starts → rounds ≤ 10000 → improving n lent order starts seed rounds .answer .number ≡ 0
   unfolding doneImproved donePlanned
   packable-improves p l = ap (λ (r : Left Planned (List ℕ × List ℕ)). r .answer .number) (packable-improving p l)
 
   pub record Plannable : Type 0 where
-    pub network : Network n widths guards
+    pub network : Network n lent
     pub orderSize : length order ≡ 128
     pub startsSize : length starts ≡ 128
     pub few : rounds ≤ 10000
 
-  pub plan-clear : planFault n widths guards order starts rounds .number ≡ 0 → Plannable
+  pub plan-clear : planFault n lent order starts rounds .number ≡ 0 → Plannable
   unfolding planFault roundsFault
   plan-clear y =
       let a = or-clear _ _ y in
@@ -239,32 +239,32 @@ module _ (n : ℕ) (widths guards order starts : List ℕ) (seed rounds : ℕ) w
       let c = or-clear _ _ (b .1) in
       let d = or-clear _ _ (c .1) in
       record {
-        network = network-within n widths guards (a .0) (d .0);
+        network = network-within n lent (a .0) (d .0);
         orderSize = size-clear order 128 (b .0);
         startsSize = size-clear starts 128 (c .0);
         few = ltb-false 10000 rounds (refuse-clear (ltb 10000 rounds) 10 0 (omega arith) (d .1));
       }
 
-  pub planning-plannable : planning n widths guards order starts seed rounds .answer .number ≡ 0 → Plannable
+  pub planning-plannable : planning n lent order starts seed rounds .answer .number ≡ 0 → Plannable
   unfolding planning refusedPlanned
-  planning-plannable z = plan-clear (unless-clear (λ (r : Left Planned (List ℕ × List ℕ)). r .answer .number) (planFault n widths guards order starts rounds) (refusedPlanned order starts) _ refl z)
+  planning-plannable z = plan-clear (unless-clear (λ (r : Left Planned (List ℕ × List ℕ)). r .answer .number) (planFault n lent order starts rounds) (refusedPlanned order starts) _ refl z)
 
-  pub plannable-planning : Plannable → planning n widths guards order starts seed rounds ≡ donePlan (netOf widths guards) n order starts seed rounds
+  pub plannable-planning : Plannable → planning n lent order starts seed rounds ≡ donePlan (netOf lent) n order starts seed rounds
   unfolding planning planFault roundsFault
   plannable-planning p =
-      let w = within-network n widths guards (p .network) in
-      unless-done (planFault n widths guards order starts rounds) (refusedPlanned order starts) _
+      let w = within-network n lent (p .network) in
+      unless-done (planFault n lent order starts rounds) (refusedPlanned order starts) _
       (or-none _ _ (w .0) (or-none _ _ (sized order 128 (p .orderSize)) (or-none _ _ (sized starts 128 (p .startsSize))
       (or-none _ _ (w .1) (ap (λ (x : Fault). x .number) (refuse-not (ltb 10000 rounds) 10 0 (le-ltb 10000 rounds (p .few))))))))
 
 -- the floor
-pub record Floorable (n : ℕ) (widths guards list : List ℕ) : Type 0 where
-  pub network : Network n widths guards
+pub record Floorable (n : ℕ) (lent : Lent) (list : List ℕ) : Type 0 where
+  pub network : Network n lent
   pub some : 1 ≤ length list
   pub few : length list ≤ 8
-  pub clique : Clique (netOf widths guards) n (at list) (length list)
+  pub clique : Clique (netOf lent) n (at list) (length list)
 
-module _ (n : ℕ) (widths guards list : List ℕ) where
+module _ (n : ℕ) (lent : Lent) (list : List ℕ) where
   member : (net : Net) (k : ℕ) → badMember n net list k ≡ false → (at list k < n) × ((i : ℕ) → i < k → Conflict net (at list i) (at list k))
   member net k = go (leb n (at list k)) refl
     where
@@ -278,26 +278,26 @@ module _ (n : ℕ) (widths guards list : List ℕ) where
       go false e z =
           (leb-false n (at list k) e, λ i l. joined i (eqb (at list i) (at list k)) (found-not (λ i. eqb (at list i) (at list k) || not (inConflict net (at list i) (at list k))) k z i l))
 
-  pub floor-clear : floorFault n widths guards list .number ≡ 0 → Floorable n widths guards list
+  pub floor-clear : floorFault n lent list .number ≡ 0 → Floorable n lent list
   unfolding floorFault listFault
   floor-clear y =
       let a = or-clear _ _ y in
       let b = or-clear _ _ (a .1) in
       let c = or-clear _ _ (b .1) in
       let long = outside-not 1 8 (length list) (refuse-clear (outside 1 8 (length list)) 15 0 (omega arith) (c .0)) in
-      let bad = scan-clear 15 (badMember n (netOf widths guards) list) (length list) (omega arith) (c .1) in
+      let bad = scan-clear 15 (badMember n (netOf lent) list) (length list) (omega arith) (c .1) in
       record {
-        network = network-within n widths guards (a .0) (b .0);
+        network = network-within n lent (a .0) (b .0);
         some = long .0;
         few = long .1;
-        clique = record { inside = λ i l. member (netOf widths guards) i (bad i l) .0; all = λ i j h l. member (netOf widths guards) j (bad j l) .1 i h };
+        clique = record { inside = λ i l. member (netOf lent) i (bad i l) .0; all = λ i j h l. member (netOf lent) j (bad j l) .1 i h };
       }
 
-  pub flooring-floorable : flooring n widths guards list .number ≡ 0 → Floorable n widths guards list
+  pub flooring-floorable : flooring n lent list .number ≡ 0 → Floorable n lent list
   unfolding flooring
-  flooring-floorable z = floor-clear (unless-clear (λ (r : Floored). r .number) (floorFault n widths guards list) _ _ refl z)
+  flooring-floorable z = floor-clear (unless-clear (λ (r : Floored). r .number) (floorFault n lent list) _ _ refl z)
 
-  pub flooring-floor : flooring n widths guards list .number ≡ 0 → flooring n widths guards list .floor ≡ floor (netOf widths guards) (at list) (length list)
+  pub flooring-floor : flooring n lent list .number ≡ 0 → flooring n lent list .floor ≡ floor (netOf lent) (at list) (length list)
   unfolding flooring
   flooring-floor z =
-      ap (λ (r : Floored). r .floor) (unless-done (floorFault n widths guards list) _ _ (unless-clear (λ (r : Floored). r .number) (floorFault n widths guards list) _ _ refl z))
+      ap (λ (r : Floored). r .floor) (unless-done (floorFault n lent list) _ _ (unless-clear (λ (r : Floored). r .number) (floorFault n lent list) _ _ refl z))

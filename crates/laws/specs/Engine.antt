@@ -9,7 +9,7 @@ use native.Mathlib.Numerals.{add-one}
 use lib.ListN.{length, set, length-set}
 use lib.Dec.{ltb}
 use borrow.Author.Tests.{lt-ltb, le-ltb}
-use Rattle.rules.specs.Tables.{at, cell}
+use Rattle.rules.specs.Tables.{at, cell, Lent}
 use Rattle.rules.specs.Scan.{largest}
 use Rattle.rules.specs.Plan.{Net, netOf, end, highest}
 use Rattle.rules.specs.Packing.{Order, reach, lowest, packed, height}
@@ -73,13 +73,13 @@ pub stands-first : (net : Net) (n : ℕ) (o : ℕ → ℕ) (table need : List �
 unfolding lowest packed largest
 stands-first net n o table need l m h = record { here = omega arith; long = l; wide = m; needs = h; tops = refl; written = refl }
 
-module _ (n : ℕ) (widths guards : List ℕ) (limits : Network n widths guards) (o : ℕ → ℕ) (ord : Order o n n) (table starts need : List ℕ) (top p : ℕ) where
+module _ (n : ℕ) (lent : Lent) (limits : Network n lent) (o : ℕ → ℕ) (ord : Order o n n) (table starts need : List ℕ) (top p : ℕ) where
   abbrev net : Net
-  net = netOf widths guards
+  net = netOf lent
 
   -- one path more: it goes to its lowest start s, and the others are raised
-  pub stands-more : (t : Stands net n o table starts need top p) → p < n → (more : List ℕ) (top′ i s w : ℕ) → i ≡ o p → s ≡ at need i → w ≡ at widths i
-      → Raised n guards i (s + w) need more → top′ ≡ max top (s + w - 1) → Stands net n o table (set starts i s) more top′ (p + 1)
+  pub stands-more : (t : Stands net n o table starts need top p) → p < n → (more : List ℕ) (top′ i s w : ℕ) → i ≡ o p → s ≡ at need i → w ≡ at (lent .widths) i
+      → Raised n (lent .guards) i (s + w) need more → top′ ≡ max top (s + w - 1) → Stands net n o table (set starts i s) more top′ (p + 1)
   unfolding lowest largest
   stands-more t l more top′ i s w ei es ew u et =
       rw add-one record {
@@ -118,7 +118,7 @@ module _ (n : ℕ) (widths guards : List ℕ) (limits : Network n widths guards)
   -- the sums of a turn fit in 16 bits
   pub need-bound : length table ≡ 128 → Stands net n o table starts need top p → p < n → at need (o p) ≤ 1 + 96 * p
   need-bound room t l =
-      let w = network-bounds n widths guards limits in
+      let w = network-bounds n lent limits in
       omega (
         arith,
         t .needs (o p) (ord .inside p l),

@@ -10,7 +10,7 @@ use lib.ListN.{length}
 use lib.Dec.{ltb, eqb}
 use borrow.Author.Tests.{eq-eqb, ne-eqb, eqb-true, eqb-false, lt-ltb, le-ltb}
 use Rattle.rules.specs.declared.Fault.{Fault}
-use Rattle.rules.specs.Tables.{cell}
+use Rattle.rules.specs.Tables.{cell, Lent}
 use Rattle.rules.specs.Scan.{first, found, firstRow, foundPair}
 use Rattle.rules.specs.Numbers.{fault, noFault, refuseIf, _orElse_, scan, square, countFault, sizeFault, networkFault, networkSizes}
 use Rattle.laws.specs.Scans.{first-at, found-at, found-none, found-first, found-not, pair-none, pair-not}
@@ -143,13 +143,13 @@ pub never-size : (table : List ℕ) (size x : ℕ) → (x ≢ 2) → sizeFault t
 unfolding sizeFault
 never-size table size x h = never-refuse _ 2 0 x h
 
-pub never-sizes : (widths guards : List ℕ) (x : ℕ) → (x ≢ 2) → networkSizes widths guards .number ≡ x → x ≡ 0
+pub never-sizes : (lent : Lent) (x : ℕ) → (x ≢ 2) → networkSizes lent .number ≡ x → x ≡ 0
 unfolding networkSizes
-never-sizes widths guards x h = never-or _ _ x (never-size widths 128 x h) (never-size guards 16384 x h)
+never-sizes lent x h = never-or _ _ x (never-size (lent .widths) 128 x h) (never-size (lent .guards) 16384 x h)
 
-pub never-network : (n : ℕ) (widths guards : List ℕ) (x : ℕ) → (x ≡ 0) ⊎ (6 ≤ x) → networkFault n widths guards .number ≡ x → x ≡ 0
+pub never-network : (n : ℕ) (lent : Lent) (x : ℕ) → (x ≡ 0) ⊎ (6 ≤ x) → networkFault n lent .number ≡ x → x ≡ 0
 unfolding networkFault countFault scan square
-never-network n widths guards x (inl e) = λ z. e
-never-network n widths guards x (inr l) =
+never-network n lent x (inl e) = λ z. e
+never-network n lent x (inr l) =
     never-or _ _ x (never-refuse _ 1 0 x (λ e. omega arith)) (never-or _ _ x (never-refuse _ 3 _ x (λ e. omega arith))
     (never-or _ _ x (never-refuse _ 4 _ x (λ e. omega arith)) (never-refuse _ 5 _ x (λ e. omega arith))))

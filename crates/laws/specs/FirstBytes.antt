@@ -11,7 +11,7 @@ use borrow.Author.Tests.{leb-true, eqb-true, eqb-false, not-true, lt-ltb, lt-leb
 use native.Mathlib.Decide.{decLt}
 use native.Mathlib.Nat.{add-zero, sub-zero, zero-sub, suc-sub-suc, pow-le-pow-right}
 use native.Mathlib.Omega.{arith}
-use Rattle.rules.specs.Tables.{at, cell, cleared}
+use Rattle.rules.specs.Tables.{at, cell, cleared, Lent, lend, clearedNetwork}
 use Rattle.rules.specs.Text.{Parsed, none, some, then, word, space, lineFeed, pathsWord, guardsWord, startsWord, isDigit, isLabelByte, run, label, isPlain, valueFrom, number}
 use Rattle.rules.specs.Sheet.{isRow, find, putRow, Line, wrong, right, Section, halt, done, follow, lines, countLine, pathLine, guardLine, pathMeans, pathStep, guardCell, guardMeans, guardStep, startMeans, startStep, counted, after, ended, startsPart, guardsPart, sheetFrom}
 use Rattle.rules.specs.Calls.{readOutcome, reading}
@@ -380,35 +380,35 @@ guards-alike n labels guards starts l l′ low high f =
     after-alike 0 0 (startsPart n (n + m + 3) labels starts s) (startsPart n (n + m + 3) labels starts s′) _
     (starts-alike n (n + m + 3) labels starts s s′ low high h) (λ v z z′ i. ends (u, v) z z′ i)))
 
-sheet-alike : (labels widths guards starts l l′ : List ℕ) → Front 45490 l l′
-    → AlikeSection 0 (sheetFrom labels widths guards starts l) (sheetFrom labels widths guards starts l′)
+sheet-alike : (labels : List ℕ) (lent : Lent) (starts l l′ : List ℕ) → Front 45490 l l′
+    → AlikeSection 0 (sheetFrom labels lent starts l) (sheetFrom labels lent starts l′)
 unfolding sheetFrom
-sheet-alike labels widths guards starts l l′ f =
+sheet-alike labels lent starts l l′ f =
     counted-alike (Rest 45484) 0 (countLine pathsWord l) (countLine pathsWord l′) (λ n. leb 1 n && leb n 128) 1 _
     (count-alike pathsWord l l′ 45484 (omega arith) (less (length pathsWord + (1 + 45484)) 45490 l l′ (omega arith) f))
     (λ n r r′ t g.
     let low = leb-true 1 n (and-left (leb 1 n) (leb n 128) t) in
     let high = leb-true n 128 (and-right (leb 1 n) (leb n 128) t) in
-    after-alike (n * 15 + 42024) 0 (lines pathStep 2 n 0 (labels, widths) r) (lines pathStep 2 n 0 (labels, widths) r′) _
-    (lines-alike pathStep 2 12 (n * 15 + 42024) (λ k u s s′ d o h. path-step k u s s′ d (omega arith) h) n 0 (labels, widths) r r′
+    after-alike (n * 15 + 42024) 0 (lines pathStep 2 n 0 (labels, lent .widths) r) (lines pathStep 2 n 0 (labels, lent .widths) r′) _
+    (lines-alike pathStep 2 12 (n * 15 + 42024) (λ k u s s′ d o h. path-step k u s s′ d (omega arith) h) n 0 (labels, lent .widths) r r′
     (less (n * 12 + (n * 15 + 42024)) (45484 - (3 + 1)) r r′ (omega arith) (g 3 (omega arith) (omega arith))))
     (λ u s s′ h.
-    after-alike 0 0 (guardsPart n (u .0) guards starts s) (guardsPart n (u .0) guards starts s′) _
-    (guards-alike n (u .0) guards starts s s′ low high h) (λ v z z′ i. ends (n, u .0, u .1, v .0, v .1) [] [] nothing)))
+    after-alike 0 0 (guardsPart n (u .0) (lent .guards) starts s) (guardsPart n (u .0) (lent .guards) starts s′) _
+    (guards-alike n (u .0) (lent .guards) starts s s′ low high h) (λ v z z′ i. ends (n, u .0, lend (u .1) (v .0), v .1) [] [] nothing)))
 
 -- the call: its answer and the tables are those of the first q bytes, for every q from 45,490 on
-outcome-same : (s s′ : Section (ℕ × List ℕ × List ℕ × List ℕ × List ℕ)) → AlikeSection 0 s s′ → readOutcome s ≡ readOutcome s′
+outcome-same : (s s′ : Section (ℕ × List ℕ × Lent × List ℕ)) → AlikeSection 0 s s′ → readOutcome s ≡ readOutcome s′
 unfolding readOutcome
 outcome-same s s′ (halts x line) = refl
 outcome-same s s′ (ends t r r′ f) = refl
 
-pub first-bytes-from : (q : ℕ) (text labels widths guards starts : List ℕ) → 45490 ≤ q
-    → reading text labels widths guards starts ≡ reading (take q text) labels widths guards starts
+pub first-bytes-from : (q : ℕ) (text labels : List ℕ) (lent : Lent) (starts : List ℕ) → 45490 ≤ q
+    → reading text labels lent starts ≡ reading (take q text) labels lent starts
 unfolding reading
-first-bytes-from q text labels widths guards starts h =
-    rw (outcome-same (sheetFrom (cleared 1024 0) (cleared 128 0) (cleared 16384 255) (cleared 128 0) text)
-    (sheetFrom (cleared 1024 0) (cleared 128 0) (cleared 16384 255) (cleared 128 0) (take q text))
-    (sheet-alike (cleared 1024 0) (cleared 128 0) (cleared 16384 255) (cleared 128 0) text (take q text) (record { kept = q; enough = h; same = refl }))) refl
+first-bytes-from q text labels lent starts h =
+    rw (outcome-same (sheetFrom (cleared 1024 0) clearedNetwork (cleared 128 0) text)
+    (sheetFrom (cleared 1024 0) clearedNetwork (cleared 128 0) (take q text))
+    (sheet-alike (cleared 1024 0) clearedNetwork (cleared 128 0) text (take q text) (record { kept = q; enough = h; same = refl }))) refl
 
-pub first-bytes : (text labels widths guards starts : List ℕ) → reading text labels widths guards starts ≡ reading (take 45490 text) labels widths guards starts
-first-bytes text labels widths guards starts = first-bytes-from 45490 text labels widths guards starts (omega arith)
+pub first-bytes : (text labels : List ℕ) (lent : Lent) (starts : List ℕ) → reading text labels lent starts ≡ reading (take 45490 text) labels lent starts
+first-bytes text labels lent starts = first-bytes-from 45490 text labels lent starts (omega arith)

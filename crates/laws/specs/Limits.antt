@@ -10,7 +10,7 @@ use lib.ListN.{length}
 use lib.Dec.{ltb, leb, eqb}
 use borrow.Author.Tests.{ltb-true, ltb-false, leb-true, leb-false, lt-ltb, le-ltb, lt-leb, le-leb, eq-eqb, ne-eqb, eqb-true, eqb-false}
 use Rattle.rules.specs.declared.Fault.{Fault}
-use Rattle.rules.specs.Tables.{at, cell}
+use Rattle.rules.specs.Tables.{at, cell, Lent}
 use Rattle.rules.specs.Limits.{Network, Starts}
 use Rattle.rules.specs.Scan.{first, found}
 use Rattle.rules.specs.Plan.{Net, netOf, Conflict, Valid, Published, tooClose}
@@ -88,9 +88,9 @@ mirror-all guards n h i j l g = go (decLt i j) (decLt j i)
     go (no x) (no y) = let e : i ≡ j = omega arith in rw e
 
 -- 2, 1, 3, 4 and 5 find no fault exactly where the network is within the limits
-pub network-within : (n : ℕ) (widths guards : List ℕ) → networkSizes widths guards .number ≡ 0 → networkFault n widths guards .number ≡ 0 → Network n widths guards
+pub network-within : (n : ℕ) (lent : Lent) → networkSizes lent .number ≡ 0 → networkFault n lent .number ≡ 0 → Network n lent
 unfolding networkSizes networkFault countFault
-network-within n widths guards y z =
+network-within n lent y z =
     let a = or-clear _ _ y in
     let b = or-clear _ _ z in
     let c = or-clear _ _ (b .1) in
@@ -99,32 +99,32 @@ network-within n widths guards y z =
     record {
       some = count .0;
       few = count .1;
-      widthsSize = size-clear widths 128 (a .0);
-      guardsSize = size-clear guards 16384 (a .1);
-      width = λ k l. outside-not 1 64 (at widths k) (scan-clear 3 (badWidth widths) n (omega arith) (c .0) k l);
-      guard = λ i j l g. guard-cell guards i j (square-clear 4 (badGuard guards) n (omega arith) (d .0) i j l g);
-      diagonal = λ k l. guard-diagonal guards k (square-clear 4 (badGuard guards) n (omega arith) (d .0) k k l l);
-      mirrored = mirror-all guards n (square-clear 5 (badMirror guards) n (omega arith) (d .1));
+      widthsSize = size-clear (lent .widths) 128 (a .0);
+      guardsSize = size-clear (lent .guards) 16384 (a .1);
+      width = λ k l. outside-not 1 64 (at (lent .widths) k) (scan-clear 3 (badWidth (lent .widths)) n (omega arith) (c .0) k l);
+      guard = λ i j l g. guard-cell (lent .guards) i j (square-clear 4 (badGuard (lent .guards)) n (omega arith) (d .0) i j l g);
+      diagonal = λ k l. guard-diagonal (lent .guards) k (square-clear 4 (badGuard (lent .guards)) n (omega arith) (d .0) k k l l);
+      mirrored = mirror-all (lent .guards) n (square-clear 5 (badMirror (lent .guards)) n (omega arith) (d .1));
     }
 
-pub within-network : (n : ℕ) (widths guards : List ℕ) → Network n widths guards → (networkSizes widths guards .number ≡ 0) × (networkFault n widths guards .number ≡ 0)
+pub within-network : (n : ℕ) (lent : Lent) → Network n lent → (networkSizes lent .number ≡ 0) × (networkFault n lent .number ≡ 0)
 unfolding networkSizes networkFault countFault
-within-network n widths guards w = (
-  or-none _ _ (clear-of (sym (size-good widths 128 (w .widthsSize)))) (clear-of (sym (size-good guards 16384 (w .guardsSize)))),
+within-network n lent w = (
+  or-none _ _ (clear-of (sym (size-good (lent .widths) 128 (w .widthsSize)))) (clear-of (sym (size-good (lent .guards) 16384 (w .guardsSize)))),
   or-none _ _ (clear-of (refuse-not (outside 1 128 n) 1 0 (outside-none 1 128 n (w .some) (w .few))))
-      (or-none _ _ (clear-of (scan-none 3 (badWidth widths) n (λ k l. outside-none 1 64 (at widths k) (w .width k l .0) (w .width k l .1))))
-      (or-none _ _ (clear-of (square-none 4 (badGuard guards) n (λ i j l g. guard-fits guards i j (w .guard i j l g) (λ e. subst (λ x. at guards (cell i x) ≡ 255) e (w .diagonal i l)))))
-      (clear-of (square-none 5 (badMirror guards) n (λ i j l g. mirror-fits guards i j (w .mirrored i j l g)))))),
+      (or-none _ _ (clear-of (scan-none 3 (badWidth (lent .widths)) n (λ k l. outside-none 1 64 (at (lent .widths) k) (w .width k l .0) (w .width k l .1))))
+      (or-none _ _ (clear-of (square-none 4 (badGuard (lent .guards)) n (λ i j l g. guard-fits (lent .guards) i j (w .guard i j l g) (λ e. subst (λ x. at (lent .guards) (cell i x) ≡ 255) e (w .diagonal i l)))))
+      (clear-of (square-none 5 (badMirror (lent .guards)) n (λ i j l g. mirror-fits (lent .guards) i j (w .mirrored i j l g)))))),
 )
 
 -- a network within the limits has what the theorems ask
-pub network-good : (n : ℕ) (widths guards : List ℕ) → Network n widths guards → Good (netOf widths guards) n
-network-good n widths guards w = record { wide = λ k l. w .width k l .0; above = λ k l. omega arith; mirrored = w .mirrored; alone = w .diagonal }
+pub network-good : (n : ℕ) (lent : Lent) → Network n lent → Good (netOf lent) n
+network-good n lent w = record { wide = λ k l. w .width k l .0; above = λ k l. omega arith; mirrored = w .mirrored; alone = w .diagonal }
 
-pub network-bounds : (n : ℕ) (widths guards : List ℕ) → Network n widths guards → Within (netOf widths guards) n 1
-network-bounds n widths guards w = record { narrow = λ k l. w .width k l .1; near = λ i j l g c. small i j c (w .guard i j l g); low = λ k l. omega arith }
+pub network-bounds : (n : ℕ) (lent : Lent) → Network n lent → Within (netOf lent) n 1
+network-bounds n lent w = record { narrow = λ k l. w .width k l .1; near = λ i j l g c. small i j c (w .guard i j l g); low = λ k l. omega arith }
   where
-    small : (i j : ℕ) → Conflict (netOf widths guards) i j → (at guards (cell i j) ≤ 32) ⊎ (at guards (cell i j) ≡ 255) → at guards (cell i j) ≤ 32
+    small : (i j : ℕ) → Conflict (netOf lent) i j → (at (lent .guards) (cell i j) ≤ 32) ⊎ (at (lent .guards) (cell i j) ≡ 255) → at (lent .guards) (cell i j) ≤ 32
     small i j c (inl l) = l
     small i j c (inr e) = absurd (omega arith)
 

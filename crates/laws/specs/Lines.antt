@@ -7,7 +7,7 @@ use lib.ListN.{length, set, drop}
 use native.Mathlib.Numerals.{add-one}
 use native.Mathlib.Omega.{arith}
 use borrow.Author.Tests.{eq-eqb, ne-eqb, lt-ltb, le-ltb, le-leb, lt-leb}
-use Rattle.rules.specs.Tables.{at, cell}
+use Rattle.rules.specs.Tables.{at, cell, Lent, lend}
 use Rattle.rules.specs.Text.{none, some, pathsWord, guardsWord, startsWord}
 use Rattle.rules.specs.Sheet.{isRow, find, putRow, Line, wrong, right, halt, done, follow, lines, countLine, pathLine, guardLine, pathMeans, pathStep, guardCell, guardMeans, guardStep, startMeans, startStep, counted, after, ended, startsPart, guardsPart, sheetFrom}
 use Rattle.laws.specs.Texts.{here, past}
@@ -153,30 +153,30 @@ module _ (n : ℕ) (labels guards starts l : List ℕ) where
     unfolding guardsPart counted after
     guards-rest h guards′ l₂ z = rw (e, le-leb m 2000 h, z)
 
-module _ (labels widths guards starts l : List ℕ) where
-  pub sheet-ill : countLine pathsWord l ≡ none → sheetFrom labels widths guards starts l ≡ halt 11 1
+module _ (labels : List ℕ) (lent : Lent) (starts l : List ℕ) where
+  pub sheet-ill : countLine pathsWord l ≡ none → sheetFrom labels lent starts l ≡ halt 11 1
   unfolding sheetFrom counted
   sheet-ill e = rw e
 
   module _ (n : ℕ) (l₁ : List ℕ) (e : countLine pathsWord l ≡ some n l₁) where
-    pub sheet-few : n < 1 → sheetFrom labels widths guards starts l ≡ halt 1 1
+    pub sheet-few : n < 1 → sheetFrom labels lent starts l ≡ halt 1 1
     unfolding sheetFrom counted
     sheet-few h = rw (e, lt-leb 1 n h)
 
-    pub sheet-many : 128 < n → sheetFrom labels widths guards starts l ≡ halt 1 1
+    pub sheet-many : 128 < n → sheetFrom labels lent starts l ≡ halt 1 1
     unfolding sheetFrom counted
     sheet-many h = rw (e, le-leb 1 n (omega arith), lt-leb n 128 h)
 
     module _ (h : 1 ≤ n) (k : n ≤ 128) where
-      pub sheet-halt : (x y : ℕ) → lines pathStep 2 n 0 (labels, widths) l₁ ≡ halt x y → sheetFrom labels widths guards starts l ≡ halt x y
+      pub sheet-halt : (x y : ℕ) → lines pathStep 2 n 0 (labels, lent .widths) l₁ ≡ halt x y → sheetFrom labels lent starts l ≡ halt x y
       unfolding sheetFrom counted after
       sheet-halt x y z = rw (e, le-leb 1 n h, le-leb n 128 k, z)
 
-      module _ (labels′ widths′ l₂ : List ℕ) (z : lines pathStep 2 n 0 (labels, widths) l₁ ≡ done (labels′, widths′) l₂) where
-        pub sheet-later : (x y : ℕ) → guardsPart n labels′ guards starts l₂ ≡ halt x y → sheetFrom labels widths guards starts l ≡ halt x y
+      module _ (labels′ widths′ l₂ : List ℕ) (z : lines pathStep 2 n 0 (labels, lent .widths) l₁ ≡ done (labels′, widths′) l₂) where
+        pub sheet-later : (x y : ℕ) → guardsPart n labels′ (lent .guards) starts l₂ ≡ halt x y → sheetFrom labels lent starts l ≡ halt x y
         unfolding sheetFrom counted after
         sheet-later x y u = rw (e, le-leb 1 n h, le-leb n 128 k, z, u)
 
-        pub sheet-done : (guards′ starts′ l₃ : List ℕ) → guardsPart n labels′ guards starts l₂ ≡ done (guards′, starts′) l₃ → sheetFrom labels widths guards starts l ≡ done (n, labels′, widths′, guards′, starts′) []
+        pub sheet-done : (guards′ starts′ l₃ : List ℕ) → guardsPart n labels′ (lent .guards) starts l₂ ≡ done (guards′, starts′) l₃ → sheetFrom labels lent starts l ≡ done (n, labels′, lend widths′ guards′, starts′) []
         unfolding sheetFrom counted after
         sheet-done guards′ starts′ l₃ u = rw (e, le-leb 1 n h, le-leb n 128 k, z, u)

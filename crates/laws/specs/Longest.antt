@@ -11,7 +11,7 @@ use native.Mathlib.Nat.{zero-add}
 use native.Mathlib.Decide.{decLt}
 use native.Mathlib.Omega.{arith}
 use Rattle.rules.specs.declared.Fault.{Fault}
-use Rattle.rules.specs.Tables.{at, cell}
+use Rattle.rules.specs.Tables.{at, cell, Lent}
 use Rattle.rules.specs.Scan.{sum}
 use Rattle.rules.specs.Text.{pathsWord, guardsWord, startsWord, numeral}
 use Rattle.rules.specs.Writing.{badLabel, labelTwice, isPair, pairs, hasPlan, joinFrom, countText, pathText, guardText, pathsText, guardsText, startsText, sheetText}
@@ -62,26 +62,26 @@ marks-sum b n f g h =
     let e : sum g n ≡ ones n 0 g = ap (sum g) (sym (zero-add n)) ∙ sum-ones g n 0 ∙ zero-add (ones n 0 g) in
     omega (arith, ap (λ (x : ℕ). b * x) e, join-marks b n 0 f g (λ i l. h i (omega arith)))
 
-module _ (n : ℕ) (labels widths guards starts : List ℕ) (ok : Writable n labels widths guards starts) where
-  guard-most : (i j : ℕ) → i < n → j < n → length (guardText labels guards i j) ≤ 21 * cond (isPair guards i j) 1 0
-  guard-most i j x y = go (isPair guards i j) refl (ok .near i j x y)
+module _ (n : ℕ) (labels : List ℕ) (lent : Lent) (starts : List ℕ) (ok : Writable n labels lent starts) where
+  guard-most : (i j : ℕ) → i < n → j < n → length (guardText labels (lent .guards) i j) ≤ 21 * cond (isPair (lent .guards) i j) 1 0
+  guard-most i j x y = go (isPair (lent .guards) i j) refl (ok .near i j x y)
     where
-      go : (b : Bool) → isPair guards i j ≡ b → (at guards (cell i j) ≡ 255) ⊎ (at guards (cell i j) ≤ 32) → length (guardText labels guards i j) ≤ 21 * cond b 1 0
-      go false e k = omega (arith, ap length (guard-none labels guards i j e))
-      go true e (inl k) = absurd (omega (arith, pair-order guards i j e .1))
+      go : (b : Bool) → isPair (lent .guards) i j ≡ b → (at (lent .guards) (cell i j) ≡ 255) ⊎ (at (lent .guards) (cell i j) ≤ 32) → length (guardText labels (lent .guards) i j) ≤ 21 * cond b 1 0
+      go false e k = omega (arith, ap length (guard-none labels (lent .guards) i j e))
+      go true e (inl k) = absurd (omega (arith, pair-order (lent .guards) i j e .1))
       go true e (inr k) =
-          omega (arith, ap length (guard-some labels guards i j e), pair-length labels guards i j, label-short labels i, label-short labels j, two-digits (at guards (cell i j)) (omega arith))
+          omega (arith, ap length (guard-some labels (lent .guards) i j e), pair-length labels (lent .guards) i j, label-short labels i, label-short labels j, two-digits (at (lent .guards) (cell i j)) (omega arith))
 
-  guards-most : length (joinFrom n 0 (λ i. joinFrom n 0 (guardText labels guards i))) ≤ 21 * pairs n guards
+  guards-most : length (joinFrom n 0 (λ i. joinFrom n 0 (guardText labels (lent .guards) i))) ≤ 21 * pairs n (lent .guards)
   unfolding pairs
   guards-most =
-      marks-sum 21 n (λ i. joinFrom n 0 (guardText labels guards i)) (λ i. sum (λ j. cond (isPair guards i j) 1 0) n)
-      (λ i x. marks-sum 21 n (guardText labels guards i) (λ j. cond (isPair guards i j) 1 0) (λ j y. guard-most i j x y))
+      marks-sum 21 n (λ i. joinFrom n 0 (guardText labels (lent .guards) i)) (λ i. sum (λ j. cond (isPair (lent .guards) i j) 1 0) n)
+      (λ i x. marks-sum 21 n (guardText labels (lent .guards) i) (λ j. cond (isPair (lent .guards) i j) 1 0) (λ j y. guard-most i j x y))
 
-  paths-most : length (joinFrom n 0 (pathText labels widths)) ≤ n * 12
+  paths-most : length (joinFrom n 0 (pathText labels (lent .widths))) ≤ n * 12
   paths-most =
-      join-most 12 n 0 (pathText labels widths)
-      (λ k l. let x : k < n = omega arith in omega (arith, path-length labels widths k, label-short labels k, two-digits (at widths k) (omega (arith, ok .wide k x .1))))
+      join-most 12 n 0 (pathText labels (lent .widths))
+      (λ k l. let x : k < n = omega arith in omega (arith, path-length labels (lent .widths) k, label-short labels k, two-digits (at (lent .widths) k) (omega (arith, ok .wide k x .1))))
 
   starts-most : length (startsText n labels starts) ≤ n * 15 + 11
   unfolding startsText
@@ -97,16 +97,16 @@ module _ (n : ℕ) (labels widths guards starts : List ℕ) (ok : Writable n lab
           let most = join-most 15 n 0 (pathText labels starts) (λ k l. let x : k < n = omega arith in omega (arith, path-length labels starts k, label-short labels k, digits-few (at starts k) (omega (arith, ok .planned e k x .1)))) in
           omega (arith, length-append (countText startsWord n) J, count-length startsWord n, three-digits n (omega arith))
 
-  pub sheet-most : length (sheetText n labels widths guards starts) ≤ 45489
+  pub sheet-most : length (sheetText n labels lent starts) ≤ 45489
   unfolding sheetText pathsText guardsText
   sheet-most =
       let few = ok .few in
       let many = ok .not-many in
-      let P = joinFrom n 0 (pathText labels widths) in
-      let G = joinFrom n 0 (λ i. joinFrom n 0 (guardText labels guards i)) in
+      let P = joinFrom n 0 (pathText labels (lent .widths)) in
+      let G = joinFrom n 0 (λ i. joinFrom n 0 (guardText labels (lent .guards) i)) in
       let S = startsText n labels starts in
       let A = countText pathsWord n in
-      let D = countText guardsWord (pairs n guards) in
+      let D = countText guardsWord (pairs n (lent .guards)) in
       omega (
         arith,
         length-append (A ++ P) ((D ++ G) ++ S),
@@ -115,36 +115,36 @@ module _ (n : ℕ) (labels widths guards starts : List ℕ) (ok : Writable n lab
         length-append D G,
         count-length pathsWord n,
         three-digits n (omega arith),
-        count-length guardsWord (pairs n guards),
-        four-digits (pairs n guards) (omega arith),
+        count-length guardsWord (pairs n (lent .guards)),
+        four-digits (pairs n (lent .guards)) (omega arith),
         paths-most,
         guards-most,
         starts-most,
       )
 
 -- the two calls: no written sheet is longer, and a text of 45,489 bytes has room for every sheet that some text has room for
-pub written-most : (n : ℕ) (labels widths guards starts text : List ℕ) → writing n labels widths guards starts text .answer .number ≡ 0 → writing n labels widths guards starts text .answer .length ≤ 45489
+pub written-most : (n : ℕ) (labels : List ℕ) (lent : Lent) (starts text : List ℕ) → writing n labels lent starts text .answer .number ≡ 0 → writing n labels lent starts text .answer .length ≤ 45489
 unfolding writing unless
-written-most n labels widths guards starts text z =
-    let f = accepted-write n labels widths guards starts text z in
-    rw (eq-eqb (writeFault n labels widths guards starts text .number) 0 f) (sheet-most n labels widths guards starts (writable n labels widths guards starts text f))
+written-most n labels lent starts text z =
+    let f = accepted-write n labels lent starts text z in
+    rw (eq-eqb (writeFault n labels lent starts text .number) 0 f) (sheet-most n labels lent starts (writable n labels lent starts text f))
 
-pub room-enough : (n : ℕ) (labels widths guards starts text text′ : List ℕ) → writeFault n labels widths guards starts text .number ≡ 0 → 45489 ≤ length text′
-    → writeFault n labels widths guards starts text′ .number ≡ 0
+pub room-enough : (n : ℕ) (labels : List ℕ) (lent : Lent) (starts text text′ : List ℕ) → writeFault n labels lent starts text .number ≡ 0 → 45489 ≤ length text′
+    → writeFault n labels lent starts text′ .number ≡ 0
 unfolding writeFault
-room-enough n labels widths guards starts text text′ z room =
-    let a = or-clear (sheetSizes labels widths guards starts) _ z in
-    let b = or-clear (networkFault n widths guards) _ (a .1) in
+room-enough n labels lent starts text text′ z room =
+    let a = or-clear (sheetSizes labels lent starts) _ z in
+    let b = or-clear (networkFault n lent) _ (a .1) in
     let l = or-clear (scan 11 (badLabel labels) n) _ (b .1) in
     let t = or-clear (scan 12 (labelTwice labels) n) _ (l .1) in
-    let p = or-clear (refuseIf (ltb 2000 (pairs n guards)) 1 0) _ (t .1) in
+    let p = or-clear (refuseIf (ltb 2000 (pairs n (lent .guards))) 1 0) _ (t .1) in
     let s = or-clear (scan 7 (λ k. hasPlan n starts && badStart starts k) n) _ (p .1) in
-    let most = sheet-most n labels widths guards starts (writable n labels widths guards starts text z) in
-    let fits : refuseIf (ltb (length text′) (length (sheetText n labels widths guards starts))) 16 0 .number ≡ 0 =
-    ap (λ (x : Fault). x .number) (refuse-not (ltb (length text′) (length (sheetText n labels widths guards starts))) 16 0 (le-ltb (length text′) (length (sheetText n labels widths guards starts)) (omega arith))) in
-    or-none (sheetSizes labels widths guards starts) _ (a .0)
-    (or-none (networkFault n widths guards) _ (b .0)
+    let most = sheet-most n labels lent starts (writable n labels lent starts text z) in
+    let fits : refuseIf (ltb (length text′) (length (sheetText n labels lent starts))) 16 0 .number ≡ 0 =
+    ap (λ (x : Fault). x .number) (refuse-not (ltb (length text′) (length (sheetText n labels lent starts))) 16 0 (le-ltb (length text′) (length (sheetText n labels lent starts)) (omega arith))) in
+    or-none (sheetSizes labels lent starts) _ (a .0)
+    (or-none (networkFault n lent) _ (b .0)
     (or-none (scan 11 (badLabel labels) n) _ (l .0)
     (or-none (scan 12 (labelTwice labels) n) _ (t .0)
-    (or-none (refuseIf (ltb 2000 (pairs n guards)) 1 0) _ (p .0)
+    (or-none (refuseIf (ltb 2000 (pairs n (lent .guards))) 1 0) _ (p .0)
     (or-none (scan 7 (λ k. hasPlan n starts && badStart starts k) n) _ (s .0) fits)))))

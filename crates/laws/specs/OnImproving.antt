@@ -9,7 +9,7 @@ use native.Mathlib.Decide.{decLt}
 use lib.ListN.{length}
 use lib.Dec.{ltb}
 use Rattle.rules.specs.declared.Planned.{Planned}
-use Rattle.rules.specs.Tables.{at}
+use Rattle.rules.specs.Tables.{at, Lent}
 use Rattle.rules.specs.Scan.{sum}
 use Rattle.rules.specs.Plan.{netOf, highest, Valid}
 use Rattle.rules.specs.Packing.{Once, lowest, packed, height}
@@ -22,15 +22,15 @@ use Rattle.laws.specs.OnPacking.{plan-valid}
 
 -- Improving: the order stays an order and its starts are its packing's; each round keeps its swap only where that strictly lowers the highest
 -- slot, and else changes nothing; so the highest slot never rises, and the number kept counts the rounds that lowered it
-module _ (n : ℕ) (widths guards order starts : List ℕ) (seed : ℕ) where
+module _ (n : ℕ) (lent : Lent) (order starts : List ℕ) (seed : ℕ) where
   abbrev pub highestOf : List ℕ → ℕ
-  highestOf = height (netOf widths guards) n (lowest (netOf widths guards)) starts
+  highestOf = height (netOf lent) n (lowest (netOf lent)) starts
 
   -- where improving stands after i rounds
   abbrev pub runAfter : ℕ → Run
-  runAfter i = improved (netOf widths guards) n (lowest (netOf widths guards)) starts order seed i
+  runAfter i = improved (netOf lent) n (lowest (netOf lent)) starts order seed i
 
-  module _ (p : Packable n widths guards order starts) where
+  module _ (p : Packable n lent order starts) where
     pub run-sound : (k : ℕ) → Sound highestOf n (p .network .some) (runAfter k) × (runAfter k .highest ≤ highestOf order)
     unfolding improved
     run-sound k = rounds-sound highestOf n (p .network .some) k _ (record { whole = p .whole; room = omega (arith, p .orderSize, p .network .few); right = refl })
@@ -40,7 +40,7 @@ module _ (n : ℕ) (widths guards order starts : List ℕ) (seed : ℕ) where
     run-length k = rounds-length highestOf n (p .network .some) k _ ∙ p .orderSize
 
     -- so what improving leaves can be packed
-    pub run-packable : (k : ℕ) → Packable n widths guards (runAfter k .order) starts
+    pub run-packable : (k : ℕ) → Packable n lent (runAfter k .order) starts
     run-packable k = record { network = p .network; orderSize = run-length k; startsSize = p .startsSize; whole = run-sound k .0 .whole }
 
     -- one round more: its swap kept, strictly lower and counted; or nothing changed
@@ -63,43 +63,43 @@ module _ (n : ℕ) (widths guards order starts : List ℕ) (seed : ℕ) where
         plus : (x : ℕ) → 0 + x ≡ x
         plus x = omega arith
 
-module _ (n : ℕ) (widths guards order starts : List ℕ) (seed k : ℕ) (zero-answer : improving n widths guards order starts seed k .answer .number ≡ 0) where
-  packable : Packable n widths guards order starts
-  packable = improving-packable n widths guards order starts seed k zero-answer .0
+module _ (n : ℕ) (lent : Lent) (order starts : List ℕ) (seed k : ℕ) (zero-answer : improving n lent order starts seed k .answer .number ≡ 0) where
+  packable : Packable n lent order starts
+  packable = improving-packable n lent order starts seed k zero-answer .0
 
   abbrev last : Run
-  last = runAfter n widths guards order starts seed k
+  last = runAfter n lent order starts seed k
 
   abbrev leftBehind : Left Planned (List ℕ × List ℕ)
-  leftBehind = improving n widths guards order starts seed k
+  leftBehind = improving n lent order starts seed k
 
-  improving-is : leftBehind ≡ donePlanned (netOf widths guards) n (last .order) starts (last .kept)
+  improving-is : leftBehind ≡ donePlanned (netOf lent) n (last .order) starts (last .kept)
   unfolding doneImproved
-  improving-is = packable-improving n widths guards order starts seed k packable (improving-packable n widths guards order starts seed k zero-answer .1)
+  improving-is = packable-improving n lent order starts seed k packable (improving-packable n lent order starts seed k zero-answer .1)
 
   -- what it leaves is the packing of the order it leaves, for which packing answers the same highest slot
-  pub improving-packs : packing n widths guards (leftBehind .tables .0) starts ≡ donePacked (netOf widths guards) n (leftBehind .tables .1)
+  pub improving-packs : packing n lent (leftBehind .tables .0) starts ≡ donePacked (netOf lent) n (leftBehind .tables .1)
   unfolding donePlanned
-  improving-packs = rw improving-is (packable-packing n widths guards (last .order) starts (run-packable n widths guards order starts seed packable k))
+  improving-packs = rw improving-is (packable-packing n lent (last .order) starts (run-packable n lent order starts seed packable k))
 
   pub improving-order : Once (at (leftBehind .tables .0)) n
   unfolding donePlanned
-  improving-order = rw improving-is (order-once (at (last .order)) n (run-packable n widths guards order starts seed packable k .whole))
+  improving-order = rw improving-is (order-once (at (last .order)) n (run-packable n lent order starts seed packable k .whole))
 
-  pub improving-valid : Valid (netOf widths guards) n (at (leftBehind .tables .1))
+  pub improving-valid : Valid (netOf lent) n (at (leftBehind .tables .1))
   unfolding donePlanned
-  improving-valid = rw improving-is (plan-valid n widths guards (last .order) starts (run-packable n widths guards order starts seed packable k))
+  improving-valid = rw improving-is (plan-valid n lent (last .order) starts (run-packable n lent order starts seed packable k))
 
   pub improving-highest : leftBehind .answer .highest ≡ last .highest
   unfolding donePlanned height
-  improving-highest = rw improving-is (sym (run-sound n widths guards order starts seed packable k .0 .right))
+  improving-highest = rw improving-is (sym (run-sound n lent order starts seed packable k .0 .right))
 
   pub improving-kept : leftBehind .answer .kept ≡ last .kept
   unfolding donePlanned
   improving-kept = rw improving-is
 
   -- never above the highest slot of the order given
-  pub improving-never-above : leftBehind .answer .highest ≤ packing n widths guards order starts .answer .highest
+  pub improving-never-above : leftBehind .answer .highest ≤ packing n lent order starts .answer .highest
   unfolding donePacked height
   improving-never-above =
-      rw (improving-highest, packable-packing n widths guards order starts packable) (run-sound n widths guards order starts seed packable k .1)
+      rw (improving-highest, packable-packing n lent order starts packable) (run-sound n lent order starts seed packable k .1)

@@ -4,7 +4,7 @@ use mathlib.Core.Path.{_≡_}
 use mathlib.Core.Logic.{_↔_}
 use mathlib.Core.Bool.{not}
 use mathlib.Core.List.{List}
-use Rattle.rules.specs.Tables.{at}
+use Rattle.rules.specs.Tables.{at, Lent}
 use Rattle.rules.specs.Limits.{Network, Starts}
 use Rattle.rules.specs.Plan.{netOf, Published}
 use Rattle.rules.specs.Packing.{Once}
@@ -15,17 +15,17 @@ use Rattle.laws.specs.Limits.{network-good, order-whole, whole-order, or
 use Rattle.laws.specs.Answers.{judging-judgeable, judgeable-judging}
 
 -- Judging answers 0 exactly when the tables are within the limits and the published rule holds: 001's equations (2) and (3)
-pub judging-exact : (n : ℕ) (widths guards starts : List ℕ)
-    → (judging n widths guards starts .number ≡ 0) ↔ (Network n widths guards × Starts n starts × Published (netOf widths guards) n (at starts))
-judging-exact n widths guards starts = (
+pub judging-exact : (n : ℕ) (lent : Lent) (starts : List ℕ)
+    → (judging n lent starts .number ≡ 0) ↔ (Network n lent × Starts n starts × Published (netOf lent) n (at starts))
+judging-exact n lent starts = (
   λ z.
-      let j = judging-judgeable n widths guards starts z in
-      let g = network-good n widths guards (j .network) in
-      (j .network, j .legal, valid-published (netOf widths guards) (at starts) n (g .wide) (g .mirrored) (j .valid)),
+      let j = judging-judgeable n lent starts z in
+      let g = network-good n lent (j .network) in
+      (j .network, j .legal, valid-published (netOf lent) (at starts) n (g .wide) (g .mirrored) (j .valid)),
   λ h.
-      let g = network-good n widths guards (h .0) in
-      judgeable-judging n widths guards starts
-      (record { network = h .0; legal = h .1; valid = published-valid (netOf widths guards) (at starts) n (g .wide) (g .mirrored) (h .2) }),
+      let g = network-good n lent (h .0) in
+      judgeable-judging n lent starts
+      (record { network = h .0; legal = h .1; valid = published-valid (netOf lent) (at starts) n (g .wide) (g .mirrored) (h .2) }),
 )
 
 -- 6 refuses exactly the orders of which the first n do not hold each of 0 to n-1 once

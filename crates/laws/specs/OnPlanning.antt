@@ -6,7 +6,7 @@ use mathlib.Core.List.{List}
 use native.Mathlib.Omega.{arith}
 use lib.ListN.{length}
 use Rattle.rules.specs.declared.Planned.{Planned}
-use Rattle.rules.specs.Tables.{at}
+use Rattle.rules.specs.Tables.{at, Lent}
 use Rattle.rules.specs.Limits.{Network}
 use Rattle.rules.specs.Plan.{Net, netOf, highest, Valid}
 use Rattle.rules.specs.Packing.{Once, lowest}
@@ -22,21 +22,21 @@ use Rattle.laws.specs.OnPacking.{plan-valid}
 use Rattle.laws.specs.OnImproving.{improving-valid, improving-order}
 use Rattle.laws.specs.OnSiding.{sided-length, sided-order}
 
-module _ (n : ℕ) (widths guards order starts : List ℕ) (seed rounds : ℕ) (zero-answer : planning n widths guards order starts seed rounds .answer .number ≡ 0) where
+module _ (n : ℕ) (lent : Lent) (order starts : List ℕ) (seed rounds : ℕ) (zero-answer : planning n lent order starts seed rounds .answer .number ≡ 0) where
   abbrev net : Net
-  net = netOf widths guards
+  net = netOf lent
 
   abbrev leftBehind : Left Planned (List ℕ × List ℕ)
-  leftBehind = planning n widths guards order starts seed rounds
+  leftBehind = planning n lent order starts seed rounds
 
-  plannable : Plannable n widths guards order starts seed rounds
-  plannable = planning-plannable n widths guards order starts seed rounds zero-answer
+  plannable : Plannable n lent order starts seed rounds
+  plannable = planning-plannable n lent order starts seed rounds zero-answer
 
   room : n ≤ length order
   room = omega (arith, plannable .orderSize, plannable .network .few)
 
   -- where there are two sides: the two-sided order, packed, with none kept
-  sided : Packable n widths guards (twoSided n (isHigh net n) order) starts
+  sided : Packable n lent (twoSided n (isHigh net n) order) starts
   sided = record {
     network = plannable .network;
     orderSize = sided-length n (isHigh net n) order room ∙ plannable .orderSize;
@@ -46,30 +46,30 @@ module _ (n : ℕ) (widths guards order starts : List ℕ) (seed rounds : ℕ) (
 
   module _ (high : ℕ → Bool) (split : Split net n high) where
     has : hasSides net n ≡ true
-    has = found-all net n (plannable .network .few) (network-good n widths guards (plannable .network)) high split
+    has = found-all net n (plannable .network .few) (network-good n lent (plannable .network)) high split
 
     sided-is : leftBehind ≡ donePlanned net n (twoSided n (isHigh net n) order) starts 0
     unfolding donePlan
-    sided-is = plannable-planning n widths guards order starts seed rounds plannable ∙ rw has
+    sided-is = plannable-planning n lent order starts seed rounds plannable ∙ rw has
 
     -- two-sided networks get the best plan: document 01's figure, and no valid plan is lower
     pub planning-figure : leftBehind .answer .highest ≡ twoSidedHighest net n
     unfolding donePlanned
     planning-figure =
         rw sided-is
-        (two-sided net n (network-good n widths guards (plannable .network)) (λ k l. refl) (isHigh net n)
-        (found-sides net n (plannable .network .few) (network-good n widths guards (plannable .network)) has .split) order starts room
+        (two-sided net n (network-good n lent (plannable .network)) (λ k l. refl) (isHigh net n)
+        (found-sides net n (plannable .network .few) (network-good n lent (plannable .network)) has .split) order starts room
         (omega (arith, plannable .startsSize, plannable .network .few)))
 
     pub planning-best : (plan : ℕ → ℕ) → Valid net n plan → leftBehind .answer .highest ≤ highest net plan n
-    planning-best plan v = rw planning-figure (figure-holds net n (network-good n widths guards (plannable .network)) plan v)
+    planning-best plan v = rw planning-figure (figure-holds net n (network-good n lent (plannable .network)) plan v)
 
     pub planning-none-kept : leftBehind .answer .kept ≡ 0
     unfolding donePlanned
     planning-none-kept = rw sided-is
 
   -- where there are none: what improving the greedy order leaves
-  greedyPackable : Packable n widths guards (greedy (lowest net) n starts order n) starts
+  greedyPackable : Packable n lent (greedy (lowest net) n starts order n) starts
   greedyPackable = record {
     network = plannable .network;
     orderSize = arranged-length (startNext (lowest net) starts) n order room n ∙ plannable .orderSize;
@@ -77,18 +77,18 @@ module _ (n : ℕ) (widths guards order starts : List ℕ) (seed rounds : ℕ) (
     whole = arranged-order (startNext (lowest net) starts) n order room n (omega arith);
   }
 
-  improved-is : hasSides net n ≡ false → leftBehind ≡ improving n widths guards (greedy (lowest net) n starts order n) starts seed rounds
+  improved-is : hasSides net n ≡ false → leftBehind ≡ improving n lent (greedy (lowest net) n starts order n) starts seed rounds
   unfolding donePlan
   improved-is e =
-      plannable-planning n widths guards order starts seed rounds plannable
-      ∙ rw e (sym (packable-improving n widths guards (greedy (lowest net) n starts order n) starts seed rounds greedyPackable (plannable .few)))
+      plannable-planning n lent order starts seed rounds plannable
+      ∙ rw e (sym (packable-improving n lent (greedy (lowest net) n starts order n) starts seed rounds greedyPackable (plannable .few)))
 
-  pub planning-greedy : ((high : ℕ → Bool) → Split net n high → ⊥) → leftBehind ≡ improving n widths guards (greedy (lowest net) n starts order n) starts seed rounds
+  pub planning-greedy : ((high : ℕ → Bool) → Split net n high → ⊥) → leftBehind ≡ improving n lent (greedy (lowest net) n starts order n) starts seed rounds
   planning-greedy h = improved-is (lacks (hasSides net n) refl)
     where
       lacks : (b : Bool) → hasSides net n ≡ b → hasSides net n ≡ false
       lacks false e = e
-      lacks true e = absurd (h (isHigh net n) (found-sides net n (plannable .network .few) (network-good n widths guards (plannable .network)) e .split))
+      lacks true e = absurd (h (isHigh net n) (found-sides net n (plannable .network .few) (network-good n lent (plannable .network)) e .split))
 
   -- either way the plan is valid, and the order an order
   pub planning-valid : Valid net n (at (leftBehind .tables .1))
@@ -96,11 +96,11 @@ module _ (n : ℕ) (widths guards order starts : List ℕ) (seed rounds : ℕ) (
     where
       go : (b : Bool) → hasSides net n ≡ b → Valid net n (at (leftBehind .tables .1))
       go true e = unfold donePlanned in
-          (rw (sided-is (isHigh net n) (found-sides net n (plannable .network .few) (network-good n widths guards (plannable .network)) e .split))
-          (plan-valid n widths guards (twoSided n (isHigh net n) order) starts sided))
+          (rw (sided-is (isHigh net n) (found-sides net n (plannable .network .few) (network-good n lent (plannable .network)) e .split))
+          (plan-valid n lent (twoSided n (isHigh net n) order) starts sided))
       go false e =
           rw (improved-is e)
-          (improving-valid n widths guards (greedy (lowest net) n starts order n) starts seed rounds
+          (improving-valid n lent (greedy (lowest net) n starts order n) starts seed rounds
           (sym (ap (λ (r : Left Planned (List ℕ × List ℕ)). r .answer .number) (improved-is e)) ∙ zero-answer))
 
   pub planning-order : Once (at (leftBehind .tables .0)) n
@@ -108,9 +108,9 @@ module _ (n : ℕ) (widths guards order starts : List ℕ) (seed rounds : ℕ) (
     where
       go : (b : Bool) → hasSides net n ≡ b → Once (at (leftBehind .tables .0)) n
       go true e = unfold donePlanned in
-          (rw (sided-is (isHigh net n) (found-sides net n (plannable .network .few) (network-good n widths guards (plannable .network)) e .split))
+          (rw (sided-is (isHigh net n) (found-sides net n (plannable .network .few) (network-good n lent (plannable .network)) e .split))
           (order-once (at (twoSided n (isHigh net n) order)) n (sided .whole)))
       go false e =
           rw (improved-is e)
-          (improving-order n widths guards (greedy (lowest net) n starts order n) starts seed rounds
+          (improving-order n lent (greedy (lowest net) n starts order n) starts seed rounds
           (sym (ap (λ (r : Left Planned (List ℕ × List ℕ)). r .answer .number) (improved-is e)) ∙ zero-answer))

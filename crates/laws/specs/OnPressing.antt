@@ -5,7 +5,7 @@ use mathlib.Core.List.{List}
 use native.Mathlib.Omega.{arith}
 use lib.ListN.{length}
 use Rattle.rules.specs.declared.Packed.{Packed}
-use Rattle.rules.specs.Tables.{at}
+use Rattle.rules.specs.Tables.{at, Lent}
 use Rattle.rules.specs.Limits.{Network, Starts}
 use Rattle.rules.specs.Plan.{Net, netOf, end, highest, Valid}
 use Rattle.rules.specs.Packing.{Order, lowest, packed}
@@ -18,18 +18,18 @@ use Rattle.laws.specs.Limits.{network-good}
 use Rattle.laws.specs.Answers.{Judgeable, pressing-judgeable, judgeable-pressing, Packable, packing-packable, packable-packing}
 
 -- Pressing gives the least plan of the same sides, once and for all
-module _ (n : ℕ) (widths guards starts : List ℕ) (zero-answer : pressing n widths guards starts .answer .number ≡ 0) where
+module _ (n : ℕ) (lent : Lent) (starts : List ℕ) (zero-answer : pressing n lent starts .answer .number ≡ 0) where
   abbrev net : Net
-  net = netOf widths guards
+  net = netOf lent
 
   abbrev press : Left Packed (List ℕ)
-  press = pressing n widths guards starts
+  press = pressing n lent starts
 
-  judgeable : Judgeable n widths guards starts
-  judgeable = pressing-judgeable n widths guards starts zero-answer
+  judgeable : Judgeable n lent starts
+  judgeable = pressing-judgeable n lent starts zero-answer
 
   good : Good net n
-  good = network-good n widths guards (judgeable .network)
+  good = network-good n lent (judgeable .network)
 
   few : n ≤ 128
   few = judgeable .network .few
@@ -38,7 +38,7 @@ module _ (n : ℕ) (widths guards starts : List ℕ) (zero-answer : pressing n w
   room = omega (arith, judgeable .legal .size, judgeable .network .few)
 
   press-is : press ≡ donePacked net n (pressed net n starts)
-  press-is = judgeable-pressing n widths guards starts judgeable
+  press-is = judgeable-pressing n lent starts judgeable
 
   pub pressing-from-valid : Valid net n (at starts)
   pressing-from-valid = judgeable .valid
@@ -68,7 +68,7 @@ module _ (n : ℕ) (widths guards starts : List ℕ) (zero-answer : pressing n w
       (highest-le net (at (press .tables)) n (highest net plan n) (λ k l. omega (arith, pressing-least plan v s k l, highest-ge net plan n k l)))
 
   -- what is pressed can be pressed: it answers 0 again, and changes nothing
-  pub pressed-judgeable : Judgeable n widths guards (press .tables)
+  pub pressed-judgeable : Judgeable n lent (press .tables)
   pressed-judgeable = record {
     network = judgeable .network;
     legal = record {
@@ -84,44 +84,44 @@ module _ (n : ℕ) (widths guards starts : List ℕ) (zero-answer : pressing n w
       size : length (press .tables) ≡ 128
       size = unfold donePacked in (rw press-is (press-length net n good few starts room (judgeable .valid) ∙ judgeable .legal .size))
 
-  pub pressing-again : pressing n widths guards (press .tables) ≡ press
-  pressing-again = judgeable-pressing n widths guards (press .tables) pressed-judgeable ∙ same
+  pub pressing-again : pressing n lent (press .tables) ≡ press
+  pressing-again = judgeable-pressing n lent (press .tables) pressed-judgeable ∙ same
     where
       same : donePacked net n (pressed net n (press .tables)) ≡ press
       same = unfold donePacked in (rw (press-is, press-again net n good few starts room (judgeable .valid)))
 
 -- two valid plans with the same sides press to the same plan, of the same highest slot
-pub pressing-same : (n : ℕ) (widths guards starts others : List ℕ) → pressing n widths guards starts .answer .number ≡ 0 → pressing n widths guards others .answer .number ≡ 0
-    → SameSides (netOf widths guards) n (at starts) (at others)
-    → ((k : ℕ) → k < n → at (pressing n widths guards starts .tables) k ≡ at (pressing n widths guards others .tables) k)
-    × (pressing n widths guards starts .answer .highest ≡ pressing n widths guards others .answer .highest)
-pressing-same n widths guards starts others y z s = (agree, tops)
+pub pressing-same : (n : ℕ) (lent : Lent) (starts others : List ℕ) → pressing n lent starts .answer .number ≡ 0 → pressing n lent others .answer .number ≡ 0
+    → SameSides (netOf lent) n (at starts) (at others)
+    → ((k : ℕ) → k < n → at (pressing n lent starts .tables) k ≡ at (pressing n lent others .tables) k)
+    × (pressing n lent starts .answer .highest ≡ pressing n lent others .answer .highest)
+pressing-same n lent starts others y z s = (agree, tops)
   where
-    a : Judgeable n widths guards starts
-    a = pressing-judgeable n widths guards starts y
+    a : Judgeable n lent starts
+    a = pressing-judgeable n lent starts y
 
-    b : Judgeable n widths guards others
-    b = pressing-judgeable n widths guards others z
+    b : Judgeable n lent others
+    b = pressing-judgeable n lent others z
 
-    agree : (k : ℕ) → k < n → at (pressing n widths guards starts .tables) k ≡ at (pressing n widths guards others .tables) k
+    agree : (k : ℕ) → k < n → at (pressing n lent starts .tables) k ≡ at (pressing n lent others .tables) k
     agree k l = unfold donePacked in
-        (rw (judgeable-pressing n widths guards starts a, judgeable-pressing n widths guards others b)
-        (press-agree (netOf widths guards) n (network-good n widths guards (a .network)) (a .network .few) starts others
+        (rw (judgeable-pressing n lent starts a, judgeable-pressing n lent others b)
+        (press-agree (netOf lent) n (network-good n lent (a .network)) (a .network .few) starts others
         (omega (arith, a .legal .size, a .network .few)) (omega (arith, b .legal .size, b .network .few)) (a .valid) (b .valid) s k l))
 
-    tops : pressing n widths guards starts .answer .highest ≡ pressing n widths guards others .answer .highest
+    tops : pressing n lent starts .answer .highest ≡ pressing n lent others .answer .highest
     tops =
-        rw (pressing-highest n widths guards starts y, pressing-highest n widths guards others z)
-        (highest-same (netOf widths guards) (at (pressing n widths guards starts .tables)) (at (pressing n widths guards others .tables)) n agree)
+        rw (pressing-highest n lent starts y, pressing-highest n lent others z)
+        (highest-same (netOf lent) (at (pressing n lent starts .tables)) (at (pressing n lent others .tables)) n agree)
 
 -- For every order, packing it and packing its reverse reach the same highest slot
-pub packing-reverse : (n : ℕ) (widths guards order reverse starts others : List ℕ)
-    → packing n widths guards order starts .answer .number ≡ 0 → packing n widths guards reverse others .answer .number ≡ 0 → Reversed (at order) (at reverse) n
-    → packing n widths guards order starts .answer .highest ≡ packing n widths guards reverse others .answer .highest
+pub packing-reverse : (n : ℕ) (lent : Lent) (order reverse starts others : List ℕ)
+    → packing n lent order starts .answer .number ≡ 0 → packing n lent reverse others .answer .number ≡ 0 → Reversed (at order) (at reverse) n
+    → packing n lent order starts .answer .highest ≡ packing n lent reverse others .answer .highest
 unfolding donePacked
-packing-reverse n widths guards order reverse starts others y z rev =
-    let p = packing-packable n widths guards order starts y in
-    let q = packing-packable n widths guards reverse others z in
-    rw (packable-packing n widths guards order starts p, packable-packing n widths guards reverse others q)
-    (reverse-law (netOf widths guards) n (network-good n widths guards (p .network)) (λ k l. refl) (at order) (at reverse) (p .whole) (q .whole) rev starts others
+packing-reverse n lent order reverse starts others y z rev =
+    let p = packing-packable n lent order starts y in
+    let q = packing-packable n lent reverse others z in
+    rw (packable-packing n lent order starts p, packable-packing n lent reverse others q)
+    (reverse-law (netOf lent) n (network-good n lent (p .network)) (λ k l. refl) (at order) (at reverse) (p .whole) (q .whole) rev starts others
     (omega (arith, p .startsSize, p .network .few)) (omega (arith, q .startsSize, q .network .few)))

@@ -8,7 +8,7 @@ use native.Mathlib.Omega.{arith}
 use native.Mathlib.Decide.{decLt}
 use lib.ListN.{length}
 use Rattle.rules.specs.declared.Sided.{Sided}
-use Rattle.rules.specs.Tables.{at}
+use Rattle.rules.specs.Tables.{at, Lent}
 use Rattle.rules.specs.Limits.{Network}
 use Rattle.rules.specs.Scan.{sum}
 use Rattle.rules.specs.Plan.{Net, netOf, Conflict, highest, Valid}
@@ -109,69 +109,69 @@ module _ (n : ℕ) (high : ℕ → Bool) (order : List ℕ) (room : n ≤ length
       go false e = absurd (omega (arith, low-along, sum-many (λ i. isLow (o i)) (suc i) n l (λ j g. low-before e j g (high (o j)) refl)))
 
 -- 0 exactly when there are two sides, 9 exactly when there are none, the earlier tests having found no fault
-module _ (n : ℕ) (widths guards order : List ℕ) where
+module _ (n : ℕ) (lent : Lent) (order : List ℕ) where
   abbrev net : Net
-  net = netOf widths guards
+  net = netOf lent
 
-  pub siding-exact : (siding n widths guards order .answer .number ≡ 0) ↔ (Sidable n widths guards order × Sides net n (isHigh net n))
+  pub siding-exact : (siding n lent order .answer .number ≡ 0) ↔ (Sidable n lent order × Sides net n (isHigh net n))
   siding-exact = (
-    λ z. let s = siding-done n widths guards order z in (s .0, found-sides net n (s .0 .network .few) (network-good n widths guards (s .0 .network)) (s .1)),
-    λ h. sidable-number n widths guards order (h .0) ∙ rw (found-all net n (h .0 .network .few) (network-good n widths guards (h .0 .network)) (isHigh net n) (h .1 .split)),
+    λ z. let s = siding-done n lent order z in (s .0, found-sides net n (s .0 .network .few) (network-good n lent (s .0 .network)) (s .1)),
+    λ h. sidable-number n lent order (h .0) ∙ rw (found-all net n (h .0 .network .few) (network-good n lent (h .0 .network)) (isHigh net n) (h .1 .split)),
   )
 
-  pub nine-exact : (siding n widths guards order .answer .number ≡ 9) ↔ (Sidable n widths guards order × ((high : ℕ → Bool) → Split net n high → ⊥))
+  pub nine-exact : (siding n lent order .answer .number ≡ 9) ↔ (Sidable n lent order × ((high : ℕ → Bool) → Split net n high → ⊥))
   nine-exact = (
     λ z.
-        let s = siding-nine n widths guards order z in
-        (s .0, λ high split. true≢false (sym (found-all net n (s .0 .network .few) (network-good n widths guards (s .0 .network)) high split) ∙ s .1)),
-    λ h. sidable-number n widths guards order (h .0) ∙ go (h .0) (h .1) (hasSides net n) refl,
+        let s = siding-nine n lent order z in
+        (s .0, λ high split. true≢false (sym (found-all net n (s .0 .network .few) (network-good n lent (s .0 .network)) high split) ∙ s .1)),
+    λ h. sidable-number n lent order (h .0) ∙ go (h .0) (h .1) (hasSides net n) refl,
   )
     where
-      go : Sidable n widths guards order → ((high : ℕ → Bool) → Split net n high → ⊥) → (b : Bool) → hasSides net n ≡ b → cond {A = ℕ} (hasSides net n) 0 9 ≡ 9
+      go : Sidable n lent order → ((high : ℕ → Bool) → Split net n high → ⊥) → (b : Bool) → hasSides net n ≡ b → cond {A = ℕ} (hasSides net n) 0 9 ≡ 9
       go s no-split false e = rw e
-      go s no-split true e = absurd (no-split (isHigh net n) (found-sides net n (s .network .few) (network-good n widths guards (s .network)) e .split))
+      go s no-split true e = absurd (no-split (isHigh net n) (found-sides net n (s .network .few) (network-good n lent (s .network)) e .split))
 
   -- the sides are unique
-  pub siding-unique : Network n widths guards → (high : ℕ → Bool) → Sides net n high → (k : ℕ) → k < n → high k ≡ isHigh net n k
+  pub siding-unique : Network n lent → (high : ℕ → Bool) → Sides net n high → (k : ℕ) → k < n → high k ≡ isHigh net n k
   siding-unique w high s = sides-found net n (w .few) high s
 
-  module _ (zero-answer : siding n widths guards order .answer .number ≡ 0) where
-    sidable : Sidable n widths guards order × (hasSides net n ≡ true)
-    sidable = siding-done n widths guards order zero-answer
+  module _ (zero-answer : siding n lent order .answer .number ≡ 0) where
+    sidable : Sidable n lent order × (hasSides net n ≡ true)
+    sidable = siding-done n lent order zero-answer
 
     room : n ≤ length order
     room = omega (arith, sidable .0 .orderSize, sidable .0 .network .few)
 
     sides : Sides net n (isHigh net n)
-    sides = found-sides net n (sidable .0 .network .few) (network-good n widths guards (sidable .0 .network)) (sidable .1)
+    sides = found-sides net n (sidable .0 .network .few) (network-good n lent (sidable .0 .network)) (sidable .1)
 
-    siding-is : siding n widths guards order ≡ left (record { number = 0; place = 0; low = lowSide n (isHigh net n) }) (twoSided n (isHigh net n) order)
-    siding-is = sidable-siding n widths guards order (sidable .0) (sidable .1)
+    siding-is : siding n lent order ≡ left (record { number = 0; place = 0; low = lowSide n (isHigh net n) }) (twoSided n (isHigh net n) order)
+    siding-is = sidable-siding n lent order (sidable .0) (sidable .1)
 
-    pub siding-order : Once (at (siding n widths guards order .tables)) n
+    pub siding-order : Once (at (siding n lent order .tables)) n
     siding-order = rw siding-is (order-once (at (twoSided n (isHigh net n) order)) n (sided-order n (isHigh net n) order room))
 
     -- the size of the low side: so many paths of the order are low, and the rest high
-    pub siding-low : (i : ℕ) → i < n → i < siding n widths guards order .answer .low → isHigh net n (at (siding n widths guards order .tables) i) ≡ false
+    pub siding-low : (i : ℕ) → i < n → i < siding n lent order .answer .low → isHigh net n (at (siding n lent order .tables) i) ≡ false
     siding-low i l = rw siding-is (λ h. sided-low n (isHigh net n) order room i h l)
 
-    pub siding-high : (i : ℕ) → i < n → siding n widths guards order .answer .low ≤ i → isHigh net n (at (siding n widths guards order .tables) i) ≡ true
+    pub siding-high : (i : ℕ) → i < n → siding n lent order .answer .low ≤ i → isHigh net n (at (siding n lent order .tables) i) ≡ true
     siding-high i l = rw siding-is (λ h. sided-high n (isHigh net n) order room i h l)
 
     -- each side by number
     pub siding-numbers : (i j : ℕ) → i < j → j < n
-        → isHigh net n (at (siding n widths guards order .tables) i) ≡ isHigh net n (at (siding n widths guards order .tables) j)
-        → at (siding n widths guards order .tables) i < at (siding n widths guards order .tables) j
+        → isHigh net n (at (siding n lent order .tables) i) ≡ isHigh net n (at (siding n lent order .tables) j)
+        → at (siding n lent order .tables) i < at (siding n lent order .tables) j
     siding-numbers i j h l = rw siding-is (sided-numbers n (isHigh net n) order room i j h l)
 
     -- packed, its highest slot is document 01's figure, and no valid plan has a lower one
-    pub siding-packs : (starts : List ℕ) → length starts ≡ 128 → packing n widths guards (siding n widths guards order .tables) starts .answer .highest ≡ twoSidedHighest net n
+    pub siding-packs : (starts : List ℕ) → length starts ≡ 128 → packing n lent (siding n lent order .tables) starts .answer .highest ≡ twoSidedHighest net n
     unfolding donePacked
     siding-packs starts size =
-        rw (siding-is, packable-packing n widths guards (twoSided n (isHigh net n) order) starts packable)
-        (two-sided net n (network-good n widths guards (sidable .0 .network)) (λ k l. refl) (isHigh net n) (sides .split) order starts room (omega (arith, sidable .0 .network .few)))
+        rw (siding-is, packable-packing n lent (twoSided n (isHigh net n) order) starts packable)
+        (two-sided net n (network-good n lent (sidable .0 .network)) (λ k l. refl) (isHigh net n) (sides .split) order starts room (omega (arith, sidable .0 .network .few)))
       where
-        packable : Packable n widths guards (twoSided n (isHigh net n) order) starts
+        packable : Packable n lent (twoSided n (isHigh net n) order) starts
         packable = record {
           network = sidable .0 .network;
           orderSize = sided-length n (isHigh net n) order room ∙ sidable .0 .orderSize;
@@ -180,4 +180,4 @@ module _ (n : ℕ) (widths guards order : List ℕ) where
         }
 
     pub siding-best : (plan : ℕ → ℕ) → Valid net n plan → twoSidedHighest net n ≤ highest net plan n
-    siding-best plan v = figure-holds net n (network-good n widths guards (sidable .0 .network)) plan v
+    siding-best plan v = figure-holds net n (network-good n lent (sidable .0 .network)) plan v

@@ -5,6 +5,7 @@ use Prim.Native.Nat.{ℕ}
 use mathlib.Core.Path.{_≡_, sym, ap, _∙_}
 use mathlib.Core.List.{List}
 use denote.Ref.{RefT, now, ptr}
+use Rattle.rules.specs.Tables.{Lent}
 use Rattle.rules.specs.declared.Judged.{Judged}
 use Rattle.rules.specs.declared.Packed.{Packed}
 use Rattle.rules.specs.declared.Sided.{Sided}
@@ -20,43 +21,43 @@ pub one-answer : {A T : Type 0} {a b : A} {t u : T} {d : Left A T} → left a t 
 one-answer {A} {T} x y = (ap (λ (r : Left A T). r .answer) (x ∙ sym y), ap (λ (r : Left A T). r .tables) (x ∙ sym y))
 
 -- the calls that write tables
-pub pack-one : (n : ℕ) (widths guards order starts : List ℕ) {r s : Packed} {t u : List ℕ}
-    → left r t ≡ packing n widths guards order starts → left s u ≡ packing n widths guards order starts → (r ≡ s) × (t ≡ u)
-pack-one n widths guards order starts = one-answer
+pub pack-one : (n : ℕ) (lent : Lent) (order starts : List ℕ) {r s : Packed} {t u : List ℕ}
+    → left r t ≡ packing n lent order starts → left s u ≡ packing n lent order starts → (r ≡ s) × (t ≡ u)
+pack-one n lent order starts = one-answer
 
-pub press-one : (n : ℕ) (widths guards starts : List ℕ) {r s : Packed} {t u : List ℕ}
-    → left r t ≡ pressing n widths guards starts → left s u ≡ pressing n widths guards starts → (r ≡ s) × (t ≡ u)
-press-one n widths guards starts = one-answer
+pub press-one : (n : ℕ) (lent : Lent) (starts : List ℕ) {r s : Packed} {t u : List ℕ}
+    → left r t ≡ pressing n lent starts → left s u ≡ pressing n lent starts → (r ≡ s) × (t ≡ u)
+press-one n lent starts = one-answer
 
-pub two-sides-one : (n : ℕ) (widths guards order : List ℕ) {r s : Sided} {t u : List ℕ}
-    → left r t ≡ siding n widths guards order → left s u ≡ siding n widths guards order → (r ≡ s) × (t ≡ u)
-two-sides-one n widths guards order = one-answer
+pub two-sides-one : (n : ℕ) (lent : Lent) (order : List ℕ) {r s : Sided} {t u : List ℕ}
+    → left r t ≡ siding n lent order → left s u ≡ siding n lent order → (r ≡ s) × (t ≡ u)
+two-sides-one n lent order = one-answer
 
-pub plan-one : (n : ℕ) (widths guards order starts : List ℕ) (seed rounds : ℕ) {r s : Planned} {t u : List ℕ × List ℕ}
-    → left r t ≡ planning n widths guards order starts seed rounds → left s u ≡ planning n widths guards order starts seed rounds → (r ≡ s) × (t ≡ u)
-plan-one n widths guards order starts seed rounds = one-answer
+pub plan-one : (n : ℕ) (lent : Lent) (order starts : List ℕ) (seed rounds : ℕ) {r s : Planned} {t u : List ℕ × List ℕ}
+    → left r t ≡ planning n lent order starts seed rounds → left s u ≡ planning n lent order starts seed rounds → (r ≡ s) × (t ≡ u)
+plan-one n lent order starts seed rounds = one-answer
 
-pub improve-one : (n : ℕ) (widths guards order starts : List ℕ) (seed rounds : ℕ) {r s : Planned} {t u : List ℕ × List ℕ}
-    → left r t ≡ improving n widths guards order starts seed rounds → left s u ≡ improving n widths guards order starts seed rounds → (r ≡ s) × (t ≡ u)
-improve-one n widths guards order starts seed rounds = one-answer
+pub improve-one : (n : ℕ) (lent : Lent) (order starts : List ℕ) (seed rounds : ℕ) {r s : Planned} {t u : List ℕ × List ℕ}
+    → left r t ≡ improving n lent order starts seed rounds → left s u ≡ improving n lent order starts seed rounds → (r ≡ s) × (t ≡ u)
+improve-one n lent order starts seed rounds = one-answer
 
-pub read-one : (text labels widths guards starts : List ℕ) {r s : SheetRead} {t u : List ℕ × List ℕ × List ℕ × List ℕ}
-    → left r t ≡ reading text labels widths guards starts → left s u ≡ reading text labels widths guards starts → (r ≡ s) × (t ≡ u)
-read-one text labels widths guards starts = one-answer
+pub read-one : (text labels : List ℕ) (lent : Lent) (starts : List ℕ) {r s : SheetRead} {t u : List ℕ × Lent × List ℕ}
+    → left r t ≡ reading text labels lent starts → left s u ≡ reading text labels lent starts → (r ≡ s) × (t ≡ u)
+read-one text labels lent starts = one-answer
 
-pub write-one : (n : ℕ) (labels widths guards starts text : List ℕ) {r s : SheetWritten} {t u : List ℕ}
-    → left r t ≡ writing n labels widths guards starts text → left s u ≡ writing n labels widths guards starts text → (r ≡ s) × (t ≡ u)
-write-one n labels widths guards starts text = one-answer
+pub write-one : (n : ℕ) (labels : List ℕ) (lent : Lent) (starts text : List ℕ) {r s : SheetWritten} {t u : List ℕ}
+    → left r t ≡ writing n labels lent starts text → left s u ≡ writing n labels lent starts text → (r ≡ s) × (t ≡ u)
+write-one n labels lent starts text = one-answer
 
 -- the calls that write none
-pub judge-one : (n : ℕ) (widths guards starts : List ℕ) {r s : Judged} → r ≡ judging n widths guards starts → s ≡ judging n widths guards starts → r ≡ s
-judge-one n widths guards starts x y = x ∙ sym y
+pub judge-one : (n : ℕ) (lent : Lent) (starts : List ℕ) {r s : Judged} → r ≡ judging n lent starts → s ≡ judging n lent starts → r ≡ s
+judge-one n lent starts x y = x ∙ sym y
 
-pub floor-one : (n : ℕ) (widths guards list : List ℕ) {r s : Floored} → r ≡ flooring n widths guards list → s ≡ flooring n widths guards list → r ≡ s
-floor-one n widths guards list x y = x ∙ sym y
+pub floor-one : (n : ℕ) (lent : Lent) (list : List ℕ) {r s : Floored} → r ≡ flooring n lent list → s ≡ flooring n lent list → r ≡ s
+floor-one n lent list x y = x ∙ sym y
 
 -- the part handed back: one place, and one content
-pub better-one : (n : ℕ) (widths guards : List ℕ) (first second r s : RefT (List ℕ))
-    → Bettered n widths guards first second r → Bettered n widths guards first second s → (ptr r ≡ ptr s) × (now r ≡ now s)
+pub better-one : (n : ℕ) (lent : Lent) (first second r s : RefT (List ℕ))
+    → Bettered n lent first second r → Bettered n lent first second s → (ptr r ≡ ptr s) × (now r ≡ now s)
 unfolding Bettered
-better-one n widths guards first second r s x y = (x .place ∙ sym (y .place), x .cells ∙ sym (y .cells))
+better-one n lent first second r s x y = (x .place ∙ sym (y .place), x .cells ∙ sym (y .cells))

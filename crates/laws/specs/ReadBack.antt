@@ -12,7 +12,7 @@ use lib.Seq.{ext-getD, getD-take, getD-drop, drop-cons}
 use lib.Dec.{ltb, leb, eqb}
 use borrow.Author.Tests.{ltb-true, ltb-false, leb-true, le-ltb, lt-ltb, eqb-true, eqb-false, eq-eqb, ne-eqb, not-true}
 use Rattle.rules.specs.declared.Fault.{Fault}
-use Rattle.rules.specs.Tables.{at, cell, cleared, labelByte}
+use Rattle.rules.specs.Tables.{at, cell, cleared, labelByte, Lent, lend, clearedNetwork}
 use Rattle.rules.specs.Limits.{Network}
 use Rattle.rules.specs.Scan.{first, found, sum}
 use Rattle.rules.specs.Text.{Parsed, none, some, then, word, space, lineFeed, pathsWord, guardsWord, startsWord, isDigit, isLabelByte, run, label, number}
@@ -444,14 +444,14 @@ starts-part n line labels (x ∷ l) t l′ few e =
     ended-is line s (y ∷ r) f = unfold ended in (let z : _≡_ {A = ℕ} 0 1 = cc in absurd (omega arith))
 
 -- A whole sheet: what was read is as the writer asks
-pub record Read (t : ℕ × List ℕ × List ℕ × List ℕ × List ℕ) : Type 0 where
+pub record Read (t : ℕ × List ℕ × Lent × List ℕ) : Type 0 where
   pub longLabels : length (t .1) ≡ 1024
-  pub longWidths : length (t .2) ≡ 128
-  pub longGuards : length (t .3) ≡ 16384
-  pub longStarts : length (t .4) ≡ 128
-  pub writable : Writable (t .0) (t .1) (t .2) (t .3) (t .4)
+  pub longWidths : length (t .2 .widths) ≡ 128
+  pub longGuards : length (t .2 .guards) ≡ 16384
+  pub longStarts : length (t .3) ≡ 128
+  pub writable : Writable (t .0) (t .1) (t .2) (t .3)
 
-pub sheet-read : (l : List ℕ) (t : ℕ × List ℕ × List ℕ × List ℕ × List ℕ) (l′ : List ℕ) → sheetFrom (cleared 1024 0) (cleared 128 0) (cleared 16384 255) (cleared 128 0) l ≡ done t l′ → Read t
+pub sheet-read : (l : List ℕ) (t : ℕ × List ℕ × Lent × List ℕ) (l′ : List ℕ) → sheetFrom (cleared 1024 0) clearedNetwork (cleared 128 0) l ≡ done t l′ → Read t
 unfolding sheetFrom guardsPart
 sheet-read l t l′ e =
     let a = counted-done (countLine pathsWord l) (λ n. leb 1 n && leb n 128) 1 _ t l′ e in
@@ -467,7 +467,7 @@ sheet-read l t l′ e =
     let guards : GuardsRead n (0 + m) (f .0) = lines-keep (guardStep n (b .0 .0)) (n + 3) m (GuardsRead n) (λ k t l t′ l′ h p f. guards-keep n few (b .0 .0) k t l t′ l′ p f) m 0 (cleared 16384 255) (d .1) (f .0) (f .1) (omega arith) (guards-first n few) (f .2) in
     let s = after-done (startsPart n (n + m + 3) (b .0 .0) (cleared 128 0) (f .1)) _ (c .0) (c .1) (f .3) in
     let plan = starts-part n (n + m + 3) (b .0 .0) (f .1) (s .0) (s .1) few (s .2) in
-    let tables : _≡_ {A = ℕ × List ℕ × List ℕ × List ℕ × List ℕ} (n, b .0 .0, b .0 .1, f .0, s .0) t = whole n (b .0 .0) (b .0 .1) (f .0) (s .0) (c .0) (s .1) (c .1) (s .3) (c .3) in
+    let tables : _≡_ {A = ℕ × List ℕ × Lent × List ℕ} (n, b .0 .0, lend (b .0 .1) (f .0), s .0) t = whole n (b .0 .0) (b .0 .1) (f .0) (s .0) (c .0) (s .1) (c .1) (s .3) (c .3) in
     subst Read tables record {
       longLabels = paths .longLabels;
       longWidths = paths .longWidths;
@@ -487,27 +487,27 @@ sheet-read l t l′ e =
       };
     }
   where
-    whole : (n : ℕ) (labels widths guards starts : List ℕ) (u : List ℕ × List ℕ) (l₁ l₂ : List ℕ) → done (guards, starts) l₁ ≡ done u l₂ → done (n, labels, widths, u .0, u .1) [] ≡ done t l′
-        → _≡_ {A = ℕ × List ℕ × List ℕ × List ℕ × List ℕ} (n, labels, widths, guards, starts) t
+    whole : (n : ℕ) (labels widths guards starts : List ℕ) (u : List ℕ × List ℕ) (l₁ l₂ : List ℕ) → done (guards, starts) l₁ ≡ done u l₂ → done (n, labels, lend widths (u .0), u .1) [] ≡ done t l′
+        → _≡_ {A = ℕ × List ℕ × Lent × List ℕ} (n, labels, lend widths guards, starts) t
     whole n labels widths guards starts u l₁ l₂ p q =
         let x : (guards, starts) ≡ u = cc in
-        let y : _≡_ {A = ℕ × List ℕ × List ℕ × List ℕ × List ℕ} (n, labels, widths, u .0, u .1) t = cc in
-        ap (λ (v : List ℕ × List ℕ). (n, labels, widths, v .0, v .1)) x ∙ y
+        let y : _≡_ {A = ℕ × List ℕ × Lent × List ℕ} (n, labels, lend widths (u .0), u .1) t = cc in
+        ap (λ (v : List ℕ × List ℕ). (n, labels, lend widths (v .0), v .1)) x ∙ y
 
 -- the writer accepts what it asks for, given room
-pub writable-accepted : (n : ℕ) (labels widths guards starts text : List ℕ) → Read (n, labels, widths, guards, starts) → length (sheetText n labels widths guards starts) ≤ length text
-    → writeFault n labels widths guards starts text .number ≡ 0
+pub writable-accepted : (n : ℕ) (labels : List ℕ) (lent : Lent) (starts text : List ℕ) → Read (n, labels, lent, starts) → length (sheetText n labels lent starts) ≤ length text
+    → writeFault n labels lent starts text .number ≡ 0
 unfolding writeFault sheetSizes networkSizes
-writable-accepted n labels widths guards starts text r room =
-    or-none _ _ (or-none _ _ (sized labels 1024 (r .longLabels)) (or-none _ _ (or-none _ _ (sized widths 128 (r .longWidths)) (sized guards 16384 (r .longGuards))) (sized starts 128 (r .longStarts))))
-    (or-none _ _ (within-network n widths guards network .1)
+writable-accepted n labels lent starts text r room =
+    or-none _ _ (or-none _ _ (sized labels 1024 (r .longLabels)) (or-none _ _ (or-none _ _ (sized (lent .widths) 128 (r .longWidths)) (sized (lent .guards) 16384 (r .longGuards))) (sized starts 128 (r .longStarts))))
+    (or-none _ _ (within-network n lent network .1)
     (or-none _ _ (clear (scan-none 11 (badLabel labels) n (w .formed)))
     (or-none _ _ (clear (scan-none 12 (labelTwice labels) n (w .once)))
-    (or-none _ _ (clear (refuse-not (ltb 2000 (pairs n guards)) 1 0 (le-ltb 2000 (pairs n guards) (w .not-many))))
+    (or-none _ _ (clear (refuse-not (ltb 2000 (pairs n (lent .guards))) 1 0 (le-ltb 2000 (pairs n (lent .guards)) (w .not-many))))
     (or-none _ _ (clear (scan-none 7 (λ k. hasPlan n starts && badStart starts k) n (λ k l. start-test k l (hasPlan n starts) refl)))
-    (clear (refuse-not (ltb (length text) (length (sheetText n labels widths guards starts))) 16 0 (le-ltb (length text) (length (sheetText n labels widths guards starts)) room))))))))
+    (clear (refuse-not (ltb (length text) (length (sheetText n labels lent starts))) 16 0 (le-ltb (length text) (length (sheetText n labels lent starts)) room))))))))
   where
-    w : Writable n labels widths guards starts
+    w : Writable n labels lent starts
     w = r .writable
 
     clear : {f : Fault} → f ≡ noFault → f .number ≡ 0
@@ -520,7 +520,7 @@ writable-accepted n labels widths guards starts text r room =
     flip-kinds (inl e) = inr e
     flip-kinds (inr l) = inl l
 
-    network : Network n widths guards
+    network : Network n lent
     network = record {
       some = w .some-path;
       few = w .few;
@@ -625,62 +625,62 @@ starts-named n line labels starts (x ∷ l) =
     end t [] = unfold ended in tt
     end t (y ∷ r) = unfold ended in (λ e. omega arith)
 
-sheet-named : (labels widths guards starts l : List ℕ) → Named (sheetFrom labels widths guards starts l)
+sheet-named : (labels : List ℕ) (lent : Lent) (starts l : List ℕ) → Named (sheetFrom labels lent starts l)
 unfolding sheetFrom guardsPart
-sheet-named labels widths guards starts l =
+sheet-named labels lent starts l =
     counted-named (countLine pathsWord l) (λ n. leb 1 n && leb n 128) 1 _
-    (λ n l₁. after-named (lines pathStep 2 n 0 (labels, widths) l₁) _ (lines-named pathStep 2 path-named n 0 (labels, widths) l₁)
+    (λ n l₁. after-named (lines pathStep 2 n 0 (labels, lent .widths) l₁) _ (lines-named pathStep 2 path-named n 0 (labels, lent .widths) l₁)
     (λ t l₂. after-named _ _
     (counted-named (countLine guardsWord l₂) (λ m. leb m 2000) (n + 2) _
-    (λ m l₃. after-named (lines (guardStep n (t .0)) (n + 3) m 0 guards l₃) _ (lines-named (guardStep n (t .0)) (n + 3) (guard-named n (t .0)) m 0 guards l₃)
+    (λ m l₃. after-named (lines (guardStep n (t .0)) (n + 3) m 0 (lent .guards) l₃) _ (lines-named (guardStep n (t .0)) (n + 3) (guard-named n (t .0)) m 0 (lent .guards) l₃)
     (λ g l₄. after-named (startsPart n (n + m + 3) (t .0) starts l₄) _ (starts-named n (n + m + 3) (t .0) starts l₄) (λ s l₅. tt))))
     (λ u l₃. tt)))
 
 -- A sheet that was read is accepted by `write`, given room: 45,489 bytes are always enough
-accept-all : (x : Section (ℕ × List ℕ × List ℕ × List ℕ × List ℕ)) → Named x → ((t : ℕ × List ℕ × List ℕ × List ℕ × List ℕ) (l : List ℕ) → x ≡ done t l → Read t) → (room : List ℕ) → 45489 ≤ length room
+accept-all : (x : Section (ℕ × List ℕ × Lent × List ℕ)) → Named x → ((t : ℕ × List ℕ × Lent × List ℕ) (l : List ℕ) → x ≡ done t l → Read t) → (room : List ℕ) → 45489 ≤ length room
     → readOutcome x .answer .number ≡ 0
-    → writing (readOutcome x .answer .n) (readOutcome x .tables .0) (readOutcome x .tables .1) (readOutcome x .tables .2) (readOutcome x .tables .3) room .answer .number ≡ 0
+    → writing (readOutcome x .answer .n) (readOutcome x .tables .0) (readOutcome x .tables .1) (readOutcome x .tables .2) room .answer .number ≡ 0
 unfolding readOutcome writing
 accept-all (halt a b) n h room long z = absurd (n z)
 accept-all (done t l) n h room long z =
     let r = h t l refl in
-    let f = writable-accepted (t .0) (t .1) (t .2) (t .3) (t .4) room r (omega (arith, sheet-most (t .0) (t .1) (t .2) (t .3) (t .4) (r .writable))) in
-    ap (λ (w : Left SheetWritten (List ℕ)). w .answer .number) (unless-done (writeFault (t .0) (t .1) (t .2) (t .3) (t .4) room) _ _ f)
+    let f = writable-accepted (t .0) (t .1) (t .2) (t .3) room r (omega (arith, sheet-most (t .0) (t .1) (t .2) (t .3) (r .writable))) in
+    ap (λ (w : Left SheetWritten (List ℕ)). w .answer .number) (unless-done (writeFault (t .0) (t .1) (t .2) (t .3) room) _ _ f)
 
-pub read-written : (text labels widths guards starts : List ℕ) → sheetSizes labels widths guards starts .number ≡ 0 → reading text labels widths guards starts .answer .number ≡ 0
+pub read-written : (text labels : List ℕ) (lent : Lent) (starts : List ℕ) → sheetSizes labels lent starts .number ≡ 0 → reading text labels lent starts .answer .number ≡ 0
     → (room : List ℕ) → 45489 ≤ length room
-    → writing (reading text labels widths guards starts .answer .n) (reading text labels widths guards starts .tables .0) (reading text labels widths guards starts .tables .1)
-    (reading text labels widths guards starts .tables .2) (reading text labels widths guards starts .tables .3) room .answer .number ≡ 0
-read-written text labels widths guards starts sizes z room long =
-    rw e (accept-all x (sheet-named (cleared 1024 0) (cleared 128 0) (cleared 16384 255) (cleared 128 0) text) (λ t l f. sheet-read text t l f) room long (rw e at z))
+    → writing (reading text labels lent starts .answer .n) (reading text labels lent starts .tables .0) (reading text labels lent starts .tables .1)
+    (reading text labels lent starts .tables .2) room .answer .number ≡ 0
+read-written text labels lent starts sizes z room long =
+    rw e (accept-all x (sheet-named (cleared 1024 0) clearedNetwork (cleared 128 0) text) (λ t l f. sheet-read text t l f) room long (rw e at z))
   where
-    x : Section (ℕ × List ℕ × List ℕ × List ℕ × List ℕ)
-    x = sheetFrom (cleared 1024 0) (cleared 128 0) (cleared 16384 255) (cleared 128 0) text
+    x : Section (ℕ × List ℕ × Lent × List ℕ)
+    x = sheetFrom (cleared 1024 0) clearedNetwork (cleared 128 0) text
 
-    e : reading text labels widths guards starts ≡ readOutcome x
-    e = unfold reading in (unless-done (sheetSizes labels widths guards starts) _ _ sizes)
+    e : reading text labels lent starts ≡ readOutcome x
+    e = unfold reading in (unless-done (sheetSizes labels lent starts) _ _ sizes)
 
 -- "So a read sheet written, read and written gives the same bytes the second time"
-module _ (text labels widths guards starts : List ℕ) (sizes : sheetSizes labels widths guards starts .number ≡ 0) (z : reading text labels widths guards starts .answer .number ≡ 0)
+module _ (text labels : List ℕ) (lent : Lent) (starts : List ℕ) (sizes : sheetSizes labels lent starts .number ≡ 0) (z : reading text labels lent starts .answer .number ≡ 0)
     (room again : List ℕ) (long : 45489 ≤ length room) (longer : 45489 ≤ length again) where
-  abbrev readOnce : Left SheetRead (List ℕ × List ℕ × List ℕ × List ℕ)
-  readOnce = reading text labels widths guards starts
+  abbrev readOnce : Left SheetRead (List ℕ × Lent × List ℕ)
+  readOnce = reading text labels lent starts
 
   abbrev writtenOnce : Left SheetWritten (List ℕ)
-  writtenOnce = writing (readOnce .answer .n) (readOnce .tables .0) (readOnce .tables .1) (readOnce .tables .2) (readOnce .tables .3) room
+  writtenOnce = writing (readOnce .answer .n) (readOnce .tables .0) (readOnce .tables .1) (readOnce .tables .2) room
 
-  abbrev readTwice : Left SheetRead (List ℕ × List ℕ × List ℕ × List ℕ)
-  readTwice = reading (sheetOf writtenOnce) labels widths guards starts
+  abbrev readTwice : Left SheetRead (List ℕ × Lent × List ℕ)
+  readTwice = reading (sheetOf writtenOnce) labels lent starts
 
   abbrev writtenTwice : Left SheetWritten (List ℕ)
-  writtenTwice = writing (readTwice .answer .n) (readTwice .tables .0) (readTwice .tables .1) (readTwice .tables .2) (readTwice .tables .3) again
+  writtenTwice = writing (readTwice .answer .n) (readTwice .tables .0) (readTwice .tables .1) (readTwice .tables .2) again
 
   pub settles : (writtenTwice .answer .number ≡ 0) × (sheetOf writtenTwice ≡ sheetOf writtenOnce)
   settles =
-      let first = read-written text labels widths guards starts sizes z room long in
+      let first = read-written text labels lent starts sizes z room long in
       let n = readOnce .answer .n in
       let t = readOnce .tables in
-      let f = accepted-write n (t .0) (t .1) (t .2) (t .3) room first in
-      let most = sheet-most n (t .0) (t .1) (t .2) (t .3) (writable n (t .0) (t .1) (t .2) (t .3) room f) in
-      rw (written-read n (t .0) (t .1) (t .2) (t .3) room first labels widths guards starts sizes)
-      (written-again n (t .0) (t .1) (t .2) (t .3) room again first (omega arith))
+      let f = accepted-write n (t .0) (t .1) (t .2) room first in
+      let most = sheet-most n (t .0) (t .1) (t .2) (writable n (t .0) (t .1) (t .2) room f) in
+      rw (written-read n (t .0) (t .1) (t .2) room first labels lent starts sizes)
+      (written-again n (t .0) (t .1) (t .2) room again first (omega arith))

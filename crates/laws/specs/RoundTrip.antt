@@ -7,7 +7,7 @@ use mathlib.Core.List.{List, [], _∷_, _++_, append-assoc}
 use lib.ListN.{length, set, drop, take}
 use native.Mathlib.Nat.{add-zero, zero-add}
 use native.Mathlib.Omega.{arith}
-use Rattle.rules.specs.Tables.{at, cell}
+use Rattle.rules.specs.Tables.{at, cell, Lent}
 use Rattle.rules.specs.Text.{some, then, space, lineFeed, isDigit, isLabelByte, run, numeral}
 use Rattle.rules.specs.Sheet.{isRow, find, Line, right, done, follow, lines, countLine, pathLine, guardLine, pathStep, startStep}
 use Rattle.rules.specs.Writing.{labelOf, badLabel, labelTwice, pairs, hasPlan, joinFrom, countText, pathText}
@@ -66,19 +66,19 @@ lines-back step top n state text h (suc m) k b l =
     (lines-back step top n state text h m (suc k) (omega arith) l)
 
 -- what the writer's tests say of tables that it accepts
-pub record Writable (n : ℕ) (labels widths guards starts : List ℕ) : Type 0 where
+pub record Writable (n : ℕ) (labels : List ℕ) (lent : Lent) (starts : List ℕ) : Type 0 where
   pub some-path : 1 ≤ n
   pub few : n ≤ 128
   pub formed : (k : ℕ) → k < n → badLabel labels k ≡ false
   pub once : (k : ℕ) → k < n → labelTwice labels k ≡ false
-  pub wide : (k : ℕ) → k < n → (1 ≤ at widths k) × (at widths k ≤ 64)
-  pub near : (i j : ℕ) → i < n → j < n → (at guards (cell i j) ≡ 255) ⊎ (at guards (cell i j) ≤ 32)
-  pub mirrored : (i j : ℕ) → i < n → j < n → at guards (cell i j) ≡ at guards (cell j i)
-  pub alone : (k : ℕ) → k < n → at guards (cell k k) ≡ 255
-  pub not-many : pairs n guards ≤ 2000
+  pub wide : (k : ℕ) → k < n → (1 ≤ at (lent .widths) k) × (at (lent .widths) k ≤ 64)
+  pub near : (i j : ℕ) → i < n → j < n → (at (lent .guards) (cell i j) ≡ 255) ⊎ (at (lent .guards) (cell i j) ≤ 32)
+  pub mirrored : (i j : ℕ) → i < n → j < n → at (lent .guards) (cell i j) ≡ at (lent .guards) (cell j i)
+  pub alone : (k : ℕ) → k < n → at (lent .guards) (cell k k) ≡ 255
+  pub not-many : pairs n (lent .guards) ≤ 2000
   pub planned : hasPlan n starts ≡ true → (k : ℕ) → k < n → (1 ≤ at starts k) × (at starts k ≤ 16384)
 
-module _ (n : ℕ) (labels widths guards starts : List ℕ) (ok : Writable n labels widths guards starts) where
+module _ (n : ℕ) (labels : List ℕ) (lent : Lent) (starts : List ℕ) (ok : Writable n labels lent starts) where
   pub some-byte : (k : ℕ) → k < n → 0 < length (labelOf labels k)
   some-byte k l = good-label labels k (ok .formed k l) .0
 
@@ -98,19 +98,19 @@ module _ (n : ℕ) (labels widths guards starts : List ℕ) (ok : Writable n lab
   found-label k l = find-kept labels n (labelOf labels k) (ok .few) ∙ first-at (isRow labels (labelOf labels k)) n k (none-before k l) (its-row k l) l
 
   -- the paths
-  path-back : (k : ℕ) → k < n → (l : List ℕ) → pathStep k (keptLabels k labels, keptCells k widths) (pathText labels widths k ++ l) ≡ right (keptLabels (suc k) labels, keptCells (suc k) widths) l
+  path-back : (k : ℕ) → k < n → (l : List ℕ) → pathStep k (keptLabels k labels, keptCells k (lent .widths)) (pathText labels (lent .widths) k ++ l) ≡ right (keptLabels (suc k) labels, keptCells (suc k) (lent .widths)) l
   path-back k h l =
       let b : k < 128 = omega (arith, ok .few) in
       let w = ok .wide k h in
-      path-fine k (keptLabels k labels) (keptCells k widths) (pathText labels widths k ++ l) (labelOf labels k) (at widths k) l
-      (ap pathLine (line-flat labels widths k l) ∙ line-trip (labelOf labels k) (at widths k) l (label-all labels k) (some-byte k h) (label-short labels k) (omega arith))
+      path-fine k (keptLabels k labels) (keptCells k (lent .widths)) (pathText labels (lent .widths) k ++ l) (labelOf labels k) (at (lent .widths) k) l
+      (ap pathLine (line-flat labels (lent .widths) k l) ∙ line-trip (labelOf labels k) (at (lent .widths) k) l (label-all labels k) (some-byte k h) (label-short labels k) (omega arith))
       k (sym (find-kept labels k (labelOf labels k) (omega arith) ∙ new-label k h)) (omega arith) (w .0) (w .1)
-      ∙ ap (λ (x : List ℕ). right (x, set (keptCells k widths) k (at widths k)) l) (labels-more labels k (labelOf labels k) b (row-bytes labels (labelOf labels k) k (its-row k h)))
-      ∙ ap (λ (x : List ℕ). right (keptLabels (suc k) labels, x) l) (cells-more widths k b)
+      ∙ ap (λ (x : List ℕ). right (x, set (keptCells k (lent .widths)) k (at (lent .widths) k)) l) (labels-more labels k (labelOf labels k) b (row-bytes labels (labelOf labels k) k (its-row k h)))
+      ∙ ap (λ (x : List ℕ). right (keptLabels (suc k) labels, x) l) (cells-more (lent .widths) k b)
 
-  pub paths-back : (l : List ℕ) → lines pathStep 2 n 0 (keptLabels 0 labels, keptCells 0 widths) (joinFrom n 0 (pathText labels widths) ++ l) ≡ done (keptLabels n labels, keptCells n widths) l
-  paths-back l = lines-back pathStep 2 n (λ k. (keptLabels k labels, keptCells k widths)) (pathText labels widths) path-back n 0 (omega arith) l
-      ∙ ap (λ (m : ℕ). done (keptLabels m labels, keptCells m widths) l) (zero-add n)
+  pub paths-back : (l : List ℕ) → lines pathStep 2 n 0 (keptLabels 0 labels, keptCells 0 (lent .widths)) (joinFrom n 0 (pathText labels (lent .widths)) ++ l) ≡ done (keptLabels n labels, keptCells n (lent .widths)) l
+  paths-back l = lines-back pathStep 2 n (λ k. (keptLabels k labels, keptCells k (lent .widths))) (pathText labels (lent .widths)) path-back n 0 (omega arith) l
+      ∙ ap (λ (m : ℕ). done (keptLabels m labels, keptCells m (lent .widths)) l) (zero-add n)
 
   -- the starts
   module _ (plan : hasPlan n starts ≡ true) where

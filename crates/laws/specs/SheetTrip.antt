@@ -13,7 +13,7 @@ use native.Mathlib.Omega.{arith}
 use borrow.Author.Tests.{ltb-false, eqb-true, eq-eqb}
 use Rattle.rules.specs.declared.Fault.{Fault}
 use Rattle.rules.specs.declared.SheetWritten.{SheetWritten}
-use Rattle.rules.specs.Tables.{at, cell, cleared}
+use Rattle.rules.specs.Tables.{at, cell, cleared, Lent, clearedNetwork}
 use Rattle.rules.specs.Scan.{found}
 use Rattle.rules.specs.Text.{some, pathsWord, guardsWord, startsWord}
 use Rattle.rules.specs.Sheet.{done, lines, countLine, pathStep, startStep, after, startsPart, guardsPart, sheetFrom}
@@ -28,9 +28,9 @@ use Rattle.laws.specs.Lines.{starts-none, starts-done, guards-rest, shee
 use Rattle.laws.specs.Writes.{count-length}
 use Rattle.laws.specs.Kept.{front, front-in, front-past, keptCells, keptLabels, cells-is, cells-none, labels-none}
 use Rattle.laws.specs.RoundTrip.{Writable, count-trip, paths-back, starts-back}
-use Rattle.laws.specs.GuardTrip.{keptGuards, guards-back}
+use Rattle.laws.specs.GuardTrip.{keptGuards, guards-back, keptNetwork}
 
-module _ (n : ℕ) (labels widths guards starts : List ℕ) (ok : Writable n labels widths guards starts) where
+module _ (n : ℕ) (labels : List ℕ) (lent : Lent) (starts : List ℕ) (ok : Writable n labels lent starts) where
   -- no plan: the n starts are zero
   no-starts : hasPlan n starts ≡ false → cleared 128 0 ≡ keptCells n starts
   unfolding hasPlan
@@ -62,7 +62,7 @@ module _ (n : ℕ) (labels widths guards starts : List ℕ) (ok : Writable n lab
           let back : lines (startStep (keptLabels n labels)) (line + 1) n 0 (cleared 128 0) J ≡ done (keptCells n starts) (drop (length s) s) =
           ap (λ (t : List ℕ). lines (startStep (keptLabels n labels)) (line + 1) n 0 t J) (cells-none starts)
           ∙ ap (λ (l : List ℕ). lines (startStep (keptLabels n labels)) (line + 1) n 0 (keptCells 0 starts) l) (sym (append-nil J))
-          ∙ starts-back n labels widths guards starts ok e (line + 1) []
+          ∙ starts-back n labels lent starts ok e (line + 1) []
           ∙ ap (λ (l : List ℕ). done (keptCells n starts) l) (sym (drop-length s)) in
           starts-done n line (keptLabels n labels) (cleared 128 0) s 0 long n J (count-trip startsWord n J (omega arith)) refl (keptCells n starts) (length s) back (omega arith)
           ∙ ap (λ (l : List ℕ). done (keptCells n starts) l) (drop-length s)
@@ -71,47 +71,47 @@ module _ (n : ℕ) (labels widths guards starts : List ℕ) (ok : Writable n lab
       go true e = with-plan e
       go false e = starts-none n line (keptLabels n labels) (cleared 128 0) [] 0 (omega arith) ∙ ap (λ (t : List ℕ). done t []) (no-starts e)
 
-  guards-trip : guardsPart n (keptLabels n labels) (cleared 16384 255) (cleared 128 0) (guardsText n labels guards ++ startsText n labels starts) ≡ done (keptGuards n guards, keptCells n starts) []
+  guards-trip : guardsPart n (keptLabels n labels) (cleared 16384 255) (cleared 128 0) (guardsText n labels (lent .guards) ++ startsText n labels starts) ≡ done (keptGuards n (lent .guards), keptCells n starts) []
   unfolding guardsText after
   guards-trip =
-      let G = joinFrom n 0 (λ i. joinFrom n 0 (guardText labels guards i)) in
+      let G = joinFrom n 0 (λ i. joinFrom n 0 (guardText labels (lent .guards) i)) in
       let S = startsText n labels starts in
-      let m = pairs n guards in
+      let m = pairs n (lent .guards) in
       let few = ok .not-many in
       guards-rest n (keptLabels n labels) (cleared 16384 255) (cleared 128 0) ((countText guardsWord m ++ G) ++ S) m (G ++ S)
-      (ap (countLine guardsWord) (append-assoc (countText guardsWord m) G S) ∙ count-trip guardsWord m (G ++ S) (omega arith)) few (keptGuards n guards) S
-      (guards-back n labels widths guards starts ok (n + 3) S)
+      (ap (countLine guardsWord) (append-assoc (countText guardsWord m) G S) ∙ count-trip guardsWord m (G ++ S) (omega arith)) few (keptGuards n (lent .guards)) S
+      (guards-back n labels lent starts ok (n + 3) S)
       ∙ rw (starts-trip (n + m + 3))
 
-  pub sheet-back : sheetFrom (cleared 1024 0) (cleared 128 0) (cleared 16384 255) (cleared 128 0) (sheetText n labels widths guards starts)
-      ≡ done (n, keptLabels n labels, keptCells n widths, keptGuards n guards, keptCells n starts) []
+  pub sheet-back : sheetFrom (cleared 1024 0) clearedNetwork (cleared 128 0) (sheetText n labels lent starts)
+      ≡ done (n, keptLabels n labels, keptNetwork n lent, keptCells n starts) []
   unfolding sheetText pathsText
   sheet-back =
       let few = ok .few in
-      let P = joinFrom n 0 (pathText labels widths) in
-      let R = guardsText n labels guards ++ startsText n labels starts in
-      sheet-done (cleared 1024 0) (cleared 128 0) (cleared 16384 255) (cleared 128 0) ((countText pathsWord n ++ P) ++ R) n (P ++ R)
+      let P = joinFrom n 0 (pathText labels (lent .widths)) in
+      let R = guardsText n labels (lent .guards) ++ startsText n labels starts in
+      sheet-done (cleared 1024 0) clearedNetwork (cleared 128 0) ((countText pathsWord n ++ P) ++ R) n (P ++ R)
       (ap (countLine pathsWord) (append-assoc (countText pathsWord n) P R) ∙ count-trip pathsWord n (P ++ R) (omega arith)) (ok .some-path) few
-      (keptLabels n labels) (keptCells n widths) R
-      (ap (λ (t : List ℕ × List ℕ). lines pathStep 2 n 0 t (P ++ R)) (λ i. (labels-none labels i, cells-none widths i)) ∙ paths-back n labels widths guards starts ok R)
-      (keptGuards n guards) (keptCells n starts) [] guards-trip
+      (keptLabels n labels) (keptCells n (lent .widths)) R
+      (ap (λ (t : List ℕ × List ℕ). lines pathStep 2 n 0 t (P ++ R)) (λ i. (labels-none labels i, cells-none (lent .widths) i)) ∙ paths-back n labels lent starts ok R)
+      (keptGuards n (lent .guards)) (keptCells n starts) [] guards-trip
 
 -- what a writer that finds no fault says
 flip-kinds : {g : ℕ} → (g ≤ 32) ⊎ (g ≡ 255) → (g ≡ 255) ⊎ (g ≤ 32)
 flip-kinds (inl l) = inr l
 flip-kinds (inr e) = inl e
 
-pub writable : (n : ℕ) (labels widths guards starts text : List ℕ) → writeFault n labels widths guards starts text .number ≡ 0 → Writable n labels widths guards starts
+pub writable : (n : ℕ) (labels : List ℕ) (lent : Lent) (starts text : List ℕ) → writeFault n labels lent starts text .number ≡ 0 → Writable n labels lent starts
 unfolding writeFault sheetSizes
-writable n labels widths guards starts text z =
-    let a = or-clear (sheetSizes labels widths guards starts) _ z in
-    let b = or-clear (networkFault n widths guards) _ (a .1) in
+writable n labels lent starts text z =
+    let a = or-clear (sheetSizes labels lent starts) _ z in
+    let b = or-clear (networkFault n lent) _ (a .1) in
     let l = or-clear (scan 11 (badLabel labels) n) _ (b .1) in
     let t = or-clear (scan 12 (labelTwice labels) n) _ (l .1) in
-    let p = or-clear (refuseIf (ltb 2000 (pairs n guards)) 1 0) _ (t .1) in
+    let p = or-clear (refuseIf (ltb 2000 (pairs n (lent .guards))) 1 0) _ (t .1) in
     let s = or-clear (scan 7 (λ k. hasPlan n starts && badStart starts k) n) _ (p .1) in
     let sizes = or-clear _ _ (or-clear _ _ (a .0) .1) in
-    let net = network-within n widths guards (sizes .0) (b .0) in
+    let net = network-within n lent (sizes .0) (b .0) in
     record {
       some-path = net .some;
       few = net .few;
@@ -121,20 +121,20 @@ writable n labels widths guards starts text z =
       near = λ i j x y. flip-kinds (net .guard i j x y);
       mirrored = net .mirrored;
       alone = net .diagonal;
-      not-many = ltb-false 2000 (pairs n guards) (refuse-clear (ltb 2000 (pairs n guards)) 1 0 (omega arith) (p .0));
+      not-many = ltb-false 2000 (pairs n (lent .guards)) (refuse-clear (ltb 2000 (pairs n (lent .guards))) 1 0 (omega arith) (p .0));
       planned = λ e k x. outside-not 1 16384 (at starts k) (sym (ap (λ (b : Bool). b && badStart starts k) e) ∙ scan-clear 7 (λ k. hasPlan n starts && badStart starts k) n (omega arith) (s .0) k x);
     }
 
 -- a call that answers 0 found no fault
-pub accepted-write : (n : ℕ) (labels widths guards starts text : List ℕ) → writing n labels widths guards starts text .answer .number ≡ 0 → writeFault n labels widths guards starts text .number ≡ 0
+pub accepted-write : (n : ℕ) (labels : List ℕ) (lent : Lent) (starts text : List ℕ) → writing n labels lent starts text .answer .number ≡ 0 → writeFault n labels lent starts text .number ≡ 0
 unfolding writing unless
-accepted-write n labels widths guards starts text = go (eqb (writeFault n labels widths guards starts text .number) 0) refl
+accepted-write n labels lent starts text = go (eqb (writeFault n labels lent starts text .number) 0) refl
   where
     sheet : List ℕ
-    sheet = sheetText n labels widths guards starts
+    sheet = sheetText n labels lent starts
 
     f : Fault
-    f = writeFault n labels widths guards starts text
+    f = writeFault n labels lent starts text
 
     go : (b : Bool) → eqb (f .number) 0 ≡ b
         → cond b (left {A = SheetWritten} (record { number = 0; place = 0; length = length sheet }) (sheet ++ drop (length sheet) text)) (left (record { number = f .number; place = f .place; length = 0 }) text) .answer .number ≡ 0
@@ -146,20 +146,20 @@ accepted-write n labels widths guards starts text = go (eqb (writeFault n labels
 abbrev pub sheetOf : Left SheetWritten (List ℕ) → List ℕ
 sheetOf w = take (w .answer .length) (w .tables)
 
-pub written-sheet : (n : ℕ) (labels widths guards starts text : List ℕ) → writing n labels widths guards starts text .answer .number ≡ 0
-    → sheetOf (writing n labels widths guards starts text) ≡ sheetText n labels widths guards starts
+pub written-sheet : (n : ℕ) (labels : List ℕ) (lent : Lent) (starts text : List ℕ) → writing n labels lent starts text .answer .number ≡ 0
+    → sheetOf (writing n labels lent starts text) ≡ sheetText n labels lent starts
 unfolding writing unless
-written-sheet n labels widths guards starts text z =
-    let s = sheetText n labels widths guards starts in
-    let e = eq-eqb (writeFault n labels widths guards starts text .number) 0 (accepted-write n labels widths guards starts text z) in
+written-sheet n labels lent starts text z =
+    let s = sheetText n labels lent starts in
+    let e = eq-eqb (writeFault n labels lent starts text .number) 0 (accepted-write n labels lent starts text z) in
     rw e (take-append-seam s (drop (length s) text))
 
 -- what `write` writes, `read` reads back to the same n, labels, widths, guards and starts, cells past n cleared
-pub written-read : (n : ℕ) (labels widths guards starts text : List ℕ) → writing n labels widths guards starts text .answer .number ≡ 0
-    → (labels′ widths′ guards′ starts′ : List ℕ) → sheetSizes labels′ widths′ guards′ starts′ .number ≡ 0
-    → reading (sheetOf (writing n labels widths guards starts text)) labels′ widths′ guards′ starts′
-    ≡ left (record { number = 0; place = 0; n = n }) (keptLabels n labels, keptCells n widths, keptGuards n guards, keptCells n starts)
+pub written-read : (n : ℕ) (labels : List ℕ) (lent : Lent) (starts text : List ℕ) → writing n labels lent starts text .answer .number ≡ 0
+    → (labels′ : List ℕ) (lent′ : Lent) (starts′ : List ℕ) → sheetSizes labels′ lent′ starts′ .number ≡ 0
+    → reading (sheetOf (writing n labels lent starts text)) labels′ lent′ starts′
+    ≡ left (record { number = 0; place = 0; n = n }) (keptLabels n labels, keptNetwork n lent, keptCells n starts)
 unfolding reading unless readOutcome
-written-read n labels widths guards starts text z labels′ widths′ guards′ starts′ sizes =
-    let ok = writable n labels widths guards starts text (accepted-write n labels widths guards starts text z) in
-    rw (eq-eqb (sheetSizes labels′ widths′ guards′ starts′ .number) 0 sizes, written-sheet n labels widths guards starts text z, sheet-back n labels widths guards starts ok)
+written-read n labels lent starts text z labels′ lent′ starts′ sizes =
+    let ok = writable n labels lent starts text (accepted-write n labels lent starts text z) in
+    rw (eq-eqb (sheetSizes labels′ lent′ starts′ .number) 0 sizes, written-sheet n labels lent starts text z, sheet-back n labels lent starts ok)

@@ -14,15 +14,15 @@ use Rattle.rules.specs.declared.Planned.{Planned}
 use Rattle.rules.specs.declared.Floored.{Floored}
 use Rattle.rules.specs.declared.SheetRead.{SheetRead}
 use Rattle.rules.specs.declared.SheetWritten.{SheetWritten}
-use Rattle.rules.specs.Tables.{at, cleared}
+use Rattle.rules.specs.Tables.{at, cleared, Lent, clearedNetwork}
 use Rattle.rules.specs.Limits.{Network}
 use Rattle.rules.specs.Scan.{sum}
 use Rattle.rules.specs.Text.{bytes}
 use Rattle.rules.specs.Numbers.{networkSizes, networkFault}
 use Rattle.rules.specs.Better.{comparing}
 use Rattle.rules.specs.Calls.{Left, judging, packing, pressing, siding, improving, planning, flooring, reading, writing}
-use Rattle.rules.specs.Figures.{widthsT, guardsT, three}
-use Rattle.laws.specs.Witness.{guardsTwo, onePath, labelA, answers, betterT, differs}
+use Rattle.rules.specs.Figures.{netT, three}
+use Rattle.laws.specs.Witness.{netTwo, netOne, onePath, labelA, answers, betterT, differs}
 use Rattle.laws.specs.Scans.{sum-same}
 use Rattle.laws.specs.Limits.{network-within}
 use Rattle.laws.specs.Answers.{Packable, improving-packable, packable-improves}
@@ -33,8 +33,8 @@ entry : {xs ys : List ℕ} (k : ℕ) → xs ≡ ys → at xs k ≡ at ys k
 entry k e = ap (λ (l : List ℕ). at l k) e
 
 -- T is within the limits
-pub networkT : Network 3 widthsT guardsT
-networkT = network-within 3 widthsT guardsT (entry 9 answers) (entry 10 answers)
+pub networkT : Network 3 netT
+networkT = network-within 3 netT (entry 9 answers) (entry 10 answers)
 
 -- a program meets a definition
 abbrev pub Meets : {Given Leaves : Type 0} → (Given → Leaves) → (Given → Leaves) → Type 0
@@ -44,32 +44,32 @@ Meets {Given} program definition = (g : Given) → program g ≡ definition g
 abbrev Table : Type 0
 Table = List ℕ
 
-abbrev pub judgingOf : ℕ × Table × Table × Table → Judged
-judgingOf (n, widths, guards, starts) = judging n widths guards starts
+abbrev pub judgingOf : ℕ × Lent × Table → Judged
+judgingOf (n, lent, starts) = judging n lent starts
 
-abbrev pub packingOf : ℕ × Table × Table × Table × Table → Left Packed Table
-packingOf (n, widths, guards, order, starts) = packing n widths guards order starts
+abbrev pub packingOf : ℕ × Lent × Table × Table → Left Packed Table
+packingOf (n, lent, order, starts) = packing n lent order starts
 
-abbrev pub pressingOf : ℕ × Table × Table × Table → Left Packed Table
-pressingOf (n, widths, guards, starts) = pressing n widths guards starts
+abbrev pub pressingOf : ℕ × Lent × Table → Left Packed Table
+pressingOf (n, lent, starts) = pressing n lent starts
 
-abbrev pub sidingOf : ℕ × Table × Table × Table → Left Sided Table
-sidingOf (n, widths, guards, order) = siding n widths guards order
+abbrev pub sidingOf : ℕ × Lent × Table → Left Sided Table
+sidingOf (n, lent, order) = siding n lent order
 
-abbrev pub planningOf : ℕ × Table × Table × Table × Table × ℕ × ℕ → Left Planned (Table × Table)
-planningOf (n, widths, guards, order, starts, seed, rounds) = planning n widths guards order starts seed rounds
+abbrev pub planningOf : ℕ × Lent × Table × Table × ℕ × ℕ → Left Planned (Table × Table)
+planningOf (n, lent, order, starts, seed, rounds) = planning n lent order starts seed rounds
 
-abbrev pub improvingOf : ℕ × Table × Table × Table × Table × ℕ × ℕ → Left Planned (Table × Table)
-improvingOf (n, widths, guards, order, starts, seed, rounds) = improving n widths guards order starts seed rounds
+abbrev pub improvingOf : ℕ × Lent × Table × Table × ℕ × ℕ → Left Planned (Table × Table)
+improvingOf (n, lent, order, starts, seed, rounds) = improving n lent order starts seed rounds
 
-abbrev pub flooringOf : ℕ × Table × Table × Table → Floored
-flooringOf (n, widths, guards, list) = flooring n widths guards list
+abbrev pub flooringOf : ℕ × Lent × Table → Floored
+flooringOf (n, lent, list) = flooring n lent list
 
-abbrev pub readingOf : Table × Table × Table × Table × Table → Left SheetRead (Table × Table × Table × Table)
-readingOf (text, labels, widths, guards, starts) = reading text labels widths guards starts
+abbrev pub readingOf : Table × Table × Lent × Table → Left SheetRead (Table × Lent × Table)
+readingOf (text, labels, lent, starts) = reading text labels lent starts
 
-abbrev pub writingOf : ℕ × Table × Table × Table × Table × Table → Left SheetWritten Table
-writingOf (n, labels, widths, guards, starts, text) = writing n labels widths guards starts text
+abbrev pub writingOf : ℕ × Table × Lent × Table × Table → Left SheetWritten Table
+writingOf (n, labels, lent, starts, text) = writing n labels lent starts text
 
 -- (1) A program that refuses everything meets the definition of no call
 abbrev pub Refuses : {Given Leaves : Type 0} → (Leaves → ℕ) → (Given → Leaves) → Type 0
@@ -79,102 +79,102 @@ refusing-unfit : {Given Leaves : Type 0} (number : Leaves → ℕ) (definition p
     → Meets program definition → Refuses number program → ⊥
 refusing-unfit number definition program given done meets refuses = refuses given (ap number (meets given) ∙ done)
 
-pub judge-refusing : (program : ℕ × Table × Table × Table → Judged) → Meets program judgingOf → Refuses (λ r. r .number) program → ⊥
-judge-refusing program = refusing-unfit (λ r. r .number) judgingOf program (3, widthsT, guardsT, three 1 4 10) (entry 0 answers)
+pub judge-refusing : (program : ℕ × Lent × Table → Judged) → Meets program judgingOf → Refuses (λ r. r .number) program → ⊥
+judge-refusing program = refusing-unfit (λ r. r .number) judgingOf program (3, netT, three 1 4 10) (entry 0 answers)
 
-pub pack-refusing : (program : ℕ × Table × Table × Table × Table → Left Packed Table) → Meets program packingOf → Refuses (λ r. r .answer .number) program → ⊥
-pack-refusing program = refusing-unfit (λ r. r .answer .number) packingOf program (3, widthsT, guardsT, three 0 1 2, three 0 0 0) (entry 1 answers)
+pub pack-refusing : (program : ℕ × Lent × Table × Table → Left Packed Table) → Meets program packingOf → Refuses (λ r. r .answer .number) program → ⊥
+pack-refusing program = refusing-unfit (λ r. r .answer .number) packingOf program (3, netT, three 0 1 2, three 0 0 0) (entry 1 answers)
 
-pub press-refusing : (program : ℕ × Table × Table × Table → Left Packed Table) → Meets program pressingOf → Refuses (λ r. r .answer .number) program → ⊥
-press-refusing program = refusing-unfit (λ r. r .answer .number) pressingOf program (3, widthsT, guardsT, three 20 10 30) (entry 2 answers)
+pub press-refusing : (program : ℕ × Lent × Table → Left Packed Table) → Meets program pressingOf → Refuses (λ r. r .answer .number) program → ⊥
+press-refusing program = refusing-unfit (λ r. r .answer .number) pressingOf program (3, netT, three 20 10 30) (entry 2 answers)
 
-pub two-sides-refusing : (program : ℕ × Table × Table × Table → Left Sided Table) → Meets program sidingOf → Refuses (λ r. r .answer .number) program → ⊥
-two-sides-refusing program = refusing-unfit (λ r. r .answer .number) sidingOf program (2, three 2 2 0, guardsTwo, three 0 0 0) (entry 3 answers)
+pub two-sides-refusing : (program : ℕ × Lent × Table → Left Sided Table) → Meets program sidingOf → Refuses (λ r. r .answer .number) program → ⊥
+two-sides-refusing program = refusing-unfit (λ r. r .answer .number) sidingOf program (2, netTwo, three 0 0 0) (entry 3 answers)
 
-pub plan-refusing : (program : ℕ × Table × Table × Table × Table × ℕ × ℕ → Left Planned (Table × Table)) → Meets program planningOf → Refuses (λ r. r .answer .number) program → ⊥
-plan-refusing program = refusing-unfit (λ r. r .answer .number) planningOf program (3, widthsT, guardsT, three 0 0 0, three 0 0 0, 1, 0) (entry 4 answers)
+pub plan-refusing : (program : ℕ × Lent × Table × Table × ℕ × ℕ → Left Planned (Table × Table)) → Meets program planningOf → Refuses (λ r. r .answer .number) program → ⊥
+plan-refusing program = refusing-unfit (λ r. r .answer .number) planningOf program (3, netT, three 0 0 0, three 0 0 0, 1, 0) (entry 4 answers)
 
-pub improve-refusing : (program : ℕ × Table × Table × Table × Table × ℕ × ℕ → Left Planned (Table × Table)) → Meets program improvingOf → Refuses (λ r. r .answer .number) program → ⊥
-improve-refusing program = refusing-unfit (λ r. r .answer .number) improvingOf program (3, widthsT, guardsT, three 2 1 0, three 0 0 0, 1, 1) (entry 5 answers)
+pub improve-refusing : (program : ℕ × Lent × Table × Table × ℕ × ℕ → Left Planned (Table × Table)) → Meets program improvingOf → Refuses (λ r. r .answer .number) program → ⊥
+improve-refusing program = refusing-unfit (λ r. r .answer .number) improvingOf program (3, netT, three 2 1 0, three 0 0 0, 1, 1) (entry 5 answers)
 
-pub floor-refusing : (program : ℕ × Table × Table × Table → Floored) → Meets program flooringOf → Refuses (λ r. r .number) program → ⊥
-floor-refusing program = refusing-unfit (λ r. r .number) flooringOf program (3, widthsT, guardsT, 0 ∷ 1 ∷ 2 ∷ []) (entry 6 answers)
+pub floor-refusing : (program : ℕ × Lent × Table → Floored) → Meets program flooringOf → Refuses (λ r. r .number) program → ⊥
+floor-refusing program = refusing-unfit (λ r. r .number) flooringOf program (3, netT, 0 ∷ 1 ∷ 2 ∷ []) (entry 6 answers)
 
-pub read-refusing : (program : Table × Table × Table × Table × Table → Left SheetRead (Table × Table × Table × Table)) → Meets program readingOf → Refuses (λ r. r .answer .number) program → ⊥
-read-refusing program = refusing-unfit (λ r. r .answer .number) readingOf program (onePath, cleared 1024 0, cleared 128 0, cleared 16384 0, cleared 128 0) (entry 7 answers)
+pub read-refusing : (program : Table × Table × Lent × Table → Left SheetRead (Table × Lent × Table)) → Meets program readingOf → Refuses (λ r. r .answer .number) program → ⊥
+read-refusing program = refusing-unfit (λ r. r .answer .number) readingOf program (onePath, cleared 1024 0, clearedNetwork, cleared 128 0) (entry 7 answers)
 
-pub write-refusing : (program : ℕ × Table × Table × Table × Table × Table → Left SheetWritten Table) → Meets program writingOf → Refuses (λ r. r .answer .number) program → ⊥
-write-refusing program = refusing-unfit (λ r. r .answer .number) writingOf program (1, labelA, three 1 0 0, cleared 16384 255, three 0 0 0, cleared 100 0) (entry 8 answers)
+pub write-refusing : (program : ℕ × Table × Lent × Table × Table → Left SheetWritten Table) → Meets program writingOf → Refuses (λ r. r .answer .number) program → ⊥
+write-refusing program = refusing-unfit (λ r. r .answer .number) writingOf program (1, labelA, netOne, three 0 0 0, cleared 100 0) (entry 8 answers)
 
 -- the better of two refuses everything by handing back empty parts: it does not for these two orders of T
-pub better-refusing : ((n : ℕ) (widths guards first second : Table) → comparing n widths guards first second ≡ 0) → ⊥
-better-refusing h = omega (arith, h 3 widthsT guardsT (three 0 1 2) (three 1 0 2), betterT)
+pub better-refusing : ((n : ℕ) (lent : Lent) (first second : Table) → comparing n lent first second ≡ 0) → ⊥
+better-refusing h = omega (arith, h 3 netT (three 0 1 2) (three 1 0 2), betterT)
 
 -- (2) A packing with one constant answer: one highest slot for all, or one table of starts for all
-pub constant-highest-unfit : (program : ℕ × Table × Table × Table × Table → Left Packed Table) → Meets program packingOf
-    → (constant : ℕ) → ((g : ℕ × Table × Table × Table × Table) → program g .answer .highest ≡ constant) → ⊥
+pub constant-highest-unfit : (program : ℕ × Lent × Table × Table → Left Packed Table) → Meets program packingOf
+    → (constant : ℕ) → ((g : ℕ × Lent × Table × Table) → program g .answer .highest ≡ constant) → ⊥
 constant-highest-unfit program meets constant same =
     omega (arith, high (three 0 1 2), high (three 1 0 2), entry 0 differs, entry 1 differs)
   where
-    high : (order : Table) → packing 3 widthsT guardsT order (three 0 0 0) .answer .highest ≡ constant
-    high order = sym (ap (λ (r : Left Packed Table). r .answer .highest) (meets (3, widthsT, guardsT, order, three 0 0 0))) ∙ same (3, widthsT, guardsT, order, three 0 0 0)
+    high : (order : Table) → packing 3 netT order (three 0 0 0) .answer .highest ≡ constant
+    high order = sym (ap (λ (r : Left Packed Table). r .answer .highest) (meets (3, netT, order, three 0 0 0))) ∙ same (3, netT, order, three 0 0 0)
 
-pub constant-starts-unfit : (program : ℕ × Table × Table × Table × Table → Left Packed Table) → Meets program packingOf
-    → (constant : Table) → ((g : ℕ × Table × Table × Table × Table) → program g .tables ≡ constant) → ⊥
+pub constant-starts-unfit : (program : ℕ × Lent × Table × Table → Left Packed Table) → Meets program packingOf
+    → (constant : Table) → ((g : ℕ × Lent × Table × Table) → program g .tables ≡ constant) → ⊥
 constant-starts-unfit program meets constant same =
     omega (arith, ap (λ (t : Table). at t 0) (start (three 0 1 2) ∙ sym (start (three 1 0 2))), entry 2 differs, entry 3 differs)
   where
-    start : (order : Table) → packing 3 widthsT guardsT order (three 0 0 0) .tables ≡ constant
-    start order = sym (ap (λ (r : Left Packed Table). r .tables) (meets (3, widthsT, guardsT, order, three 0 0 0))) ∙ same (3, widthsT, guardsT, order, three 0 0 0)
+    start : (order : Table) → packing 3 netT order (three 0 0 0) .tables ≡ constant
+    start order = sym (ap (λ (r : Left Packed Table). r .tables) (meets (3, netT, order, three 0 0 0))) ∙ same (3, netT, order, three 0 0 0)
 
 -- (3) A pressing that hands its plan back untouched
-pub untouched-unfit : (program : ℕ × Table × Table × Table → Left Packed Table) → Meets program pressingOf
-    → ((n : ℕ) (widths guards starts : Table) → program (n, widths, guards, starts) .tables ≡ starts) → ⊥
+pub untouched-unfit : (program : ℕ × Lent × Table → Left Packed Table) → Meets program pressingOf
+    → ((n : ℕ) (lent : Lent) (starts : Table) → program (n, lent, starts) .tables ≡ starts) → ⊥
 untouched-unfit program meets untouched =
     omega (arith, ap (λ (t : Table). at t 0) back, entry 4 differs, first-start)
   where
-    back : pressing 3 widthsT guardsT (three 20 10 30) .tables ≡ three 20 10 30
-    back = sym (ap (λ (r : Left Packed Table). r .tables) (meets (3, widthsT, guardsT, three 20 10 30))) ∙ untouched 3 widthsT guardsT (three 20 10 30)
+    back : pressing 3 netT (three 20 10 30) .tables ≡ three 20 10 30
+    back = sym (ap (λ (r : Left Packed Table). r .tables) (meets (3, netT, three 20 10 30))) ∙ untouched 3 netT (three 20 10 30)
 
     first-start : at (three 20 10 30) 0 ≡ 20
     first-start = unfold three in refl
 
 -- (4) An improver that works in round one and idles after: more rounds leave what one round left
-pub idle-unfit : (program : ℕ × Table × Table × Table × Table × ℕ × ℕ → Left Planned (Table × Table)) → Meets program improvingOf
-    → ((n : ℕ) (widths guards order starts : Table) (seed more : ℕ) → program (n, widths, guards, order, starts, seed, suc more) ≡ program (n, widths, guards, order, starts, seed, 1)) → ⊥
+pub idle-unfit : (program : ℕ × Lent × Table × Table × ℕ × ℕ → Left Planned (Table × Table)) → Meets program improvingOf
+    → ((n : ℕ) (lent : Lent) (order starts : Table) (seed more : ℕ) → program (n, lent, order, starts, seed, suc more) ≡ program (n, lent, order, starts, seed, 1)) → ⊥
 idle-unfit program meets idles =
-    omega (arith, ap (λ (r : Left Planned (Table × Table)). r .answer .highest) (sym (meets (given 2)) ∙ idles 3 widthsT guardsT (three 2 1 0) (three 0 0 0) 1 1 ∙ meets (given 1)), entry 5 differs, entry 6 differs)
+    omega (arith, ap (λ (r : Left Planned (Table × Table)). r .answer .highest) (sym (meets (given 2)) ∙ idles 3 netT (three 2 1 0) (three 0 0 0) 1 1 ∙ meets (given 1)), entry 5 differs, entry 6 differs)
   where
-    given : ℕ → ℕ × Table × Table × Table × Table × ℕ × ℕ
-    given rounds = (3, widthsT, guardsT, three 2 1 0, three 0 0 0, 1, rounds)
+    given : ℕ → ℕ × Lent × Table × Table × ℕ × ℕ
+    given rounds = (3, netT, three 2 1 0, three 0 0 0, 1, rounds)
 
 -- (5) An invented number of kept swaps: it has to be the number of those rounds after which the program's own highest slot is lower than before
-pub invented-unfit : (program : ℕ × Table × Table × Table × Table × ℕ × ℕ → Left Planned (Table × Table)) → Meets program improvingOf
-    → (n : ℕ) (widths guards order starts : Table) (seed rounds : ℕ) → program (n, widths, guards, order, starts, seed, rounds) .answer .number ≡ 0
-    → program (n, widths, guards, order, starts, seed, rounds) .answer .kept
-    ≢ sum (λ i. cond (ltb (program (n, widths, guards, order, starts, seed, suc i) .answer .highest) (program (n, widths, guards, order, starts, seed, i) .answer .highest)) 1 0) rounds
+pub invented-unfit : (program : ℕ × Lent × Table × Table × ℕ × ℕ → Left Planned (Table × Table)) → Meets program improvingOf
+    → (n : ℕ) (lent : Lent) (order starts : Table) (seed rounds : ℕ) → program (n, lent, order, starts, seed, rounds) .answer .number ≡ 0
+    → program (n, lent, order, starts, seed, rounds) .answer .kept
+    ≢ sum (λ i. cond (ltb (program (n, lent, order, starts, seed, suc i) .answer .highest) (program (n, lent, order, starts, seed, i) .answer .highest)) 1 0) rounds
     → ⊥
-invented-unfit program meets n widths guards order starts seed rounds done invented = invented (kept-is ∙ sums rounds (omega arith))
+invented-unfit program meets n lent order starts seed rounds done invented = invented (kept-is ∙ sums rounds (omega arith))
   where
-    accepted : improving n widths guards order starts seed rounds .answer .number ≡ 0
-    accepted = sym (ap (λ (r : Left Planned (Table × Table)). r .answer .number) (meets (n, widths, guards, order, starts, seed, rounds))) ∙ done
+    accepted : improving n lent order starts seed rounds .answer .number ≡ 0
+    accepted = sym (ap (λ (r : Left Planned (Table × Table)). r .answer .number) (meets (n, lent, order, starts, seed, rounds))) ∙ done
 
-    packable : Packable n widths guards order starts × (rounds ≤ 10000)
-    packable = improving-packable n widths guards order starts seed rounds accepted
+    packable : Packable n lent order starts × (rounds ≤ 10000)
+    packable = improving-packable n lent order starts seed rounds accepted
 
     -- after i rounds the program's highest slot is that of the defined rounds
-    after : (i : ℕ) → i ≤ rounds → program (n, widths, guards, order, starts, seed, i) .answer .highest ≡ runAfter n widths guards order starts seed i .highest
+    after : (i : ℕ) → i ≤ rounds → program (n, lent, order, starts, seed, i) .answer .highest ≡ runAfter n lent order starts seed i .highest
     after i l =
-        ap (λ (r : Left Planned (Table × Table)). r .answer .highest) (meets (n, widths, guards, order, starts, seed, i))
-        ∙ improving-highest n widths guards order starts seed i (packable-improves n widths guards order starts seed i (packable .0) (omega (arith, packable .1)))
+        ap (λ (r : Left Planned (Table × Table)). r .answer .highest) (meets (n, lent, order, starts, seed, i))
+        ∙ improving-highest n lent order starts seed i (packable-improves n lent order starts seed i (packable .0) (omega (arith, packable .1)))
 
-    kept-is : program (n, widths, guards, order, starts, seed, rounds) .answer .kept
-        ≡ sum (λ i. cond (ltb (runAfter n widths guards order starts seed (suc i) .highest) (runAfter n widths guards order starts seed i .highest)) 1 0) rounds
+    kept-is : program (n, lent, order, starts, seed, rounds) .answer .kept
+        ≡ sum (λ i. cond (ltb (runAfter n lent order starts seed (suc i) .highest) (runAfter n lent order starts seed i .highest)) 1 0) rounds
     kept-is =
-        ap (λ (r : Left Planned (Table × Table)). r .answer .kept) (meets (n, widths, guards, order, starts, seed, rounds))
-        ∙ improving-kept n widths guards order starts seed rounds accepted ∙ run-kept n widths guards order starts seed (packable .0) rounds
+        ap (λ (r : Left Planned (Table × Table)). r .answer .kept) (meets (n, lent, order, starts, seed, rounds))
+        ∙ improving-kept n lent order starts seed rounds accepted ∙ run-kept n lent order starts seed (packable .0) rounds
 
     sums : (k : ℕ) → k ≤ rounds
-        → sum (λ i. cond (ltb (runAfter n widths guards order starts seed (suc i) .highest) (runAfter n widths guards order starts seed i .highest)) 1 0) k
-        ≡ sum (λ i. cond (ltb (program (n, widths, guards, order, starts, seed, suc i) .answer .highest) (program (n, widths, guards, order, starts, seed, i) .answer .highest)) 1 0) k
+        → sum (λ i. cond (ltb (runAfter n lent order starts seed (suc i) .highest) (runAfter n lent order starts seed i .highest)) 1 0) k
+        ≡ sum (λ i. cond (ltb (program (n, lent, order, starts, seed, suc i) .answer .highest) (program (n, lent, order, starts, seed, i) .answer .highest)) 1 0) k
     sums k l = sum-same _ _ k (λ i g. rw (after (suc i) (omega arith), after i (omega arith)))

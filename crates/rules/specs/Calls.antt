@@ -13,7 +13,7 @@ use Rattle.rules.specs.declared.Planned.{Planned}
 use Rattle.rules.specs.declared.Floored.{Floored}
 use Rattle.rules.specs.declared.SheetRead.{SheetRead}
 use Rattle.rules.specs.declared.SheetWritten.{SheetWritten}
-use Rattle.rules.specs.Tables.{at, cleared}
+use Rattle.rules.specs.Tables.{at, cleared, Lent, clearedNetwork}
 use Rattle.rules.specs.Plan.{Net, netOf, highest}
 use Rattle.rules.specs.Packing.{lowest, packed}
 use Rattle.rules.specs.Pressing.{pressed}
@@ -37,9 +37,9 @@ unfoldable pub unless : {A : Type 0} → Fault → (Fault → A) → A → A
 unless f refused result = cond (eqb (f .number) 0) result (refused f)
 
 -- judge(n, widths, guards, starts)
-unfoldable pub judging : ℕ → List ℕ → List ℕ → List ℕ → Judged
-judging n widths guards starts =
-    unless (judgeFault n widths guards starts)
+unfoldable pub judging : ℕ → Lent → List ℕ → Judged
+judging n lent starts =
+    unless (judgeFault n lent starts)
     (λ f. record { number = f .number; place = f .place })
     (record { number = 0; place = 0 })
 
@@ -50,22 +50,22 @@ refusedPacked starts f = left (record { number = f .number; place = f .place; hi
 unfoldable pub donePacked : Net → ℕ → List ℕ → Left Packed (List ℕ)
 donePacked net n starts = left (record { number = 0; place = 0; highest = highest net (at starts) n }) starts
 
-unfoldable pub packing : ℕ → List ℕ → List ℕ → List ℕ → List ℕ → Left Packed (List ℕ)
-packing n widths guards order starts =
-    unless (packFault n widths guards order starts) (refusedPacked starts)
-    (donePacked (netOf widths guards) n (packed (lowest (netOf widths guards)) (at order) starts n))
+unfoldable pub packing : ℕ → Lent → List ℕ → List ℕ → Left Packed (List ℕ)
+packing n lent order starts =
+    unless (packFault n lent order starts) (refusedPacked starts)
+    (donePacked (netOf lent) n (packed (lowest (netOf lent)) (at order) starts n))
 
 -- press(n, widths, guards, starts)
-unfoldable pub pressing : ℕ → List ℕ → List ℕ → List ℕ → Left Packed (List ℕ)
-pressing n widths guards starts =
-    unless (judgeFault n widths guards starts) (refusedPacked starts)
-    (donePacked (netOf widths guards) n (pressed (netOf widths guards) n starts))
+unfoldable pub pressing : ℕ → Lent → List ℕ → Left Packed (List ℕ)
+pressing n lent starts =
+    unless (judgeFault n lent starts) (refusedPacked starts)
+    (donePacked (netOf lent) n (pressed (netOf lent) n starts))
 
 -- two_sides(n, widths, guards, order), which writes the order
-unfoldable pub siding : ℕ → List ℕ → List ℕ → List ℕ → Left Sided (List ℕ)
-siding n widths guards order =
-    let high = isHigh (netOf widths guards) n in
-    unless (twoSidesFault n widths guards order)
+unfoldable pub siding : ℕ → Lent → List ℕ → Left Sided (List ℕ)
+siding n lent order =
+    let high = isHigh (netOf lent) n in
+    unless (twoSidesFault n lent order)
     (λ f. left (record { number = f .number; place = f .place; low = 0 }) order)
     (left (record { number = 0; place = 0; low = lowSide n high }) (twoSided n high order))
 
@@ -83,10 +83,10 @@ doneImproved net n order starts seed rounds =
     let r = improved net n (lowest net) starts order seed rounds in
     donePlanned net n (r .order) starts (r .kept)
 
-unfoldable pub improving : ℕ → List ℕ → List ℕ → List ℕ → List ℕ → ℕ → ℕ → Left Planned (List ℕ × List ℕ)
-improving n widths guards order starts seed rounds =
-    unless (improveFault n widths guards order starts rounds) (refusedPlanned order starts)
-    (doneImproved (netOf widths guards) n order starts seed rounds)
+unfoldable pub improving : ℕ → Lent → List ℕ → List ℕ → ℕ → ℕ → Left Planned (List ℕ × List ℕ)
+improving n lent order starts seed rounds =
+    unless (improveFault n lent order starts rounds) (refusedPlanned order starts)
+    (doneImproved (netOf lent) n order starts seed rounds)
 
 -- plan(n, widths, guards, order, starts, seed, rounds): "the two-sided order if there are sides, with no rounds run; otherwise the greedy order,
 -- improved. It answers as improving does, with 0 kept where no rounds run."
@@ -96,36 +96,36 @@ donePlan net n order starts seed rounds =
     (donePlanned net n (twoSided n (isHigh net n) order) starts 0)
     (doneImproved net n (greedy (lowest net) n starts order n) starts seed rounds)
 
-unfoldable pub planning : ℕ → List ℕ → List ℕ → List ℕ → List ℕ → ℕ → ℕ → Left Planned (List ℕ × List ℕ)
-planning n widths guards order starts seed rounds =
-    unless (planFault n widths guards order starts rounds) (refusedPlanned order starts)
-    (donePlan (netOf widths guards) n order starts seed rounds)
+unfoldable pub planning : ℕ → Lent → List ℕ → List ℕ → ℕ → ℕ → Left Planned (List ℕ × List ℕ)
+planning n lent order starts seed rounds =
+    unless (planFault n lent order starts rounds) (refusedPlanned order starts)
+    (donePlan (netOf lent) n order starts seed rounds)
 
 -- floor(n, widths, guards, list)
-unfoldable pub flooring : ℕ → List ℕ → List ℕ → List ℕ → Floored
-flooring n widths guards list =
-    unless (floorFault n widths guards list)
+unfoldable pub flooring : ℕ → Lent → List ℕ → Floored
+flooring n lent list =
+    unless (floorFault n lent list)
     (λ f. record { number = f .number; place = f .place; floor = 0 })
-    (record { number = 0; place = 0; floor = floor (netOf widths guards) (at list) (length list) })
+    (record { number = 0; place = 0; floor = floor (netOf lent) (at list) (length list) })
 
 -- read(text, labels, widths, guards, starts), which writes all four tables. "On success the reader also clears what lies past n": a sheet is
 -- read over cleared tables, "widths and starts 0, guards 255, labels 0", and a refusal leaves these
-unfoldable pub readOutcome : Section (ℕ × List ℕ × List ℕ × List ℕ × List ℕ) → Left SheetRead (List ℕ × List ℕ × List ℕ × List ℕ)
+unfoldable pub readOutcome : Section (ℕ × List ℕ × Lent × List ℕ) → Left SheetRead (List ℕ × Lent × List ℕ)
 readOutcome (halt number line) =
-    left (record { number = number; place = line; n = 0 }) (cleared 1024 0, cleared 128 0, cleared 16384 255, cleared 128 0)
-readOutcome (done t l) = left (record { number = 0; place = 0; n = t .0 }) (t .1, t .2, t .3, t .4)
+    left (record { number = number; place = line; n = 0 }) (cleared 1024 0, clearedNetwork, cleared 128 0)
+readOutcome (done t l) = left (record { number = 0; place = 0; n = t .0 }) (t .1, t .2, t .3)
 
-unfoldable pub reading : List ℕ → List ℕ → List ℕ → List ℕ → List ℕ → Left SheetRead (List ℕ × List ℕ × List ℕ × List ℕ)
-reading text labels widths guards starts =
-    unless (sheetSizes labels widths guards starts)
-    (λ f. left (record { number = f .number; place = f .place; n = 0 }) (labels, widths, guards, starts))
-    (readOutcome (sheetFrom (cleared 1024 0) (cleared 128 0) (cleared 16384 255) (cleared 128 0) text))
+unfoldable pub reading : List ℕ → List ℕ → Lent → List ℕ → Left SheetRead (List ℕ × Lent × List ℕ)
+reading text labels lent starts =
+    unless (sheetSizes labels lent starts)
+    (λ f. left (record { number = f .number; place = f .place; n = 0 }) (labels, lent, starts))
+    (readOutcome (sheetFrom (cleared 1024 0) clearedNetwork (cleared 128 0) text))
 
 -- write(n, labels, widths, guards, starts, text), which writes the text: "It answers the sheet's length and leaves the lent text past that
 -- length unchanged"
-unfoldable pub writing : ℕ → List ℕ → List ℕ → List ℕ → List ℕ → List ℕ → Left SheetWritten (List ℕ)
-writing n labels widths guards starts text =
-    let sheet = sheetText n labels widths guards starts in
-    unless (writeFault n labels widths guards starts text)
+unfoldable pub writing : ℕ → List ℕ → Lent → List ℕ → List ℕ → Left SheetWritten (List ℕ)
+writing n labels lent starts text =
+    let sheet = sheetText n labels lent starts in
+    unless (writeFault n labels lent starts text)
     (λ f. left (record { number = f .number; place = f .place; length = 0 }) text)
     (left (record { number = 0; place = 0; length = length sheet }) (sheet ++ drop (length sheet) text))

@@ -7,7 +7,7 @@ use lib.ListN.{take, set, replicate}
 use Rattle.rules.specs.declared.Packed.{Packed}
 use Rattle.rules.specs.declared.Planned.{Planned}
 use Rattle.rules.specs.declared.Judged.{Judged}
-use Rattle.rules.specs.Tables.{at, cell, cleared}
+use Rattle.rules.specs.Tables.{at, cell, cleared, Lent, lend}
 use Rattle.rules.specs.Scan.{first, found, firstRow, foundPair, largest, least, sum}
 use Rattle.rules.specs.Plan.{netOf, highest, tooClose}
 use Rattle.rules.specs.Packing.{placed, reach, lowest, packed, height}
@@ -33,6 +33,9 @@ widthsT = 2 ∷ 4 ∷ 3 ∷ replicate 125 0
 unfoldable pub guardsT : List ℕ
 guardsT = withGuard 0 1 1 (withGuard 1 2 2 (withGuard 0 2 0 (cleared 16384 255)))
 
+unfoldable pub netT : Lent
+netT = lend widthsT guardsT
+
 -- three cells, and the rest of a table of 128
 unfoldable pub three : ℕ → ℕ → ℕ → List ℕ
 three a b c = a ∷ b ∷ c ∷ replicate 125 0
@@ -48,15 +51,15 @@ judgedRow : Judged → List ℕ
 judgedRow r = r .number ∷ r .place ∷ []
 
 packT : List ℕ → List ℕ
-packT order = packedRow (packing 3 widthsT guardsT order (three 0 0 0))
+packT order = packedRow (packing 3 netT order (three 0 0 0))
 
 -- the greedy order of T, by document 01's packing
 greedyT : List ℕ
-greedyT = greedy (lowest (netOf widthsT guardsT)) 3 (three 0 0 0) (three 0 0 0) 3
+greedyT = greedy (lowest (netOf netT)) 3 (three 0 0 0) (three 0 0 0) 3
 
 -- P8: "Widths 2 and 2, guard 1"
 judgeTwo : ℕ → ℕ → List ℕ
-judgeTwo a b = judgedRow (judging 2 (three 2 2 0) (withGuard 0 1 1 (cleared 16384 255)) (three a b 0))
+judgeTwo a b = judgedRow (judging 2 (lend (three 2 2 0) (withGuard 0 1 1 (cleared 16384 255))) (three a b 0))
 
 -- two draws from a seed, and the places that they take among n paths
 draws : ℕ → ℕ → List ℕ
@@ -67,12 +70,12 @@ figures :
     ∷ packT (three 2 1 0)
     ∷ packT (three 1 0 2)
     ∷ (take 3 greedyT ++ packT greedyT)
-    ∷ packedRow (pressing 3 widthsT guardsT (three 20 10 30))
-    ∷ (siding 3 widthsT guardsT (three 0 0 0) .answer .number ∷ [])
-    ∷ (draws 3 1 ++ plannedRow (improving 3 widthsT guardsT (three 0 2 1) (three 0 0 0) 1 1))
+    ∷ packedRow (pressing 3 netT (three 20 10 30))
+    ∷ (siding 3 netT (three 0 0 0) .answer .number ∷ [])
+    ∷ (draws 3 1 ++ plannedRow (improving 3 netT (three 0 2 1) (three 0 0 0) 1 1))
     ∷ (judgeTwo 1 4 ++ judgeTwo 1 3)
     ∷ draws 4 0
-    ∷ (flooring 3 widthsT guardsT (0 ∷ 1 ∷ 2 ∷ []) .floor ∷ [])
+    ∷ (flooring 3 netT (0 ∷ 1 ∷ 2 ∷ []) .floor ∷ [])
     ∷ [])
     ≡ (0 ∷ 0 ∷ 12 ∷ 1 ∷ 4 ∷ 10 ∷ [])
     ∷ (0 ∷ 0 ∷ 12 ∷ 11 ∷ 6 ∷ 1 ∷ [])
@@ -85,7 +88,7 @@ figures :
     ∷ (0x3C6EF35F ∷ 0x47502932 ∷ 0 ∷ 1 ∷ [])
     ∷ (9 ∷ [])
     ∷ []
-unfolding withGuard widthsT guardsT three packedRow plannedRow judgedRow packT greedyT judgeTwo draws cleared first found firstRow foundPair largest least sum highest tooClose placed reach lowest packed height picked choose arranged pressed touches opposite marks isHigh sameMark hasSides twoSided lowSide draw drawnPlace swapped stateAfter tried round rounds improved leastGuard floor refuseIf _orElse_ scan square countFault sizeFault orderFault startFault clashFault sidesFault roundsFault listFault networkFault networkSizes judgeFault packFault twoSidesFault planFault improveFault floorFault unless judging refusedPacked donePacked packing pressing siding refusedPlanned donePlanned doneImproved improving flooring
+unfolding withGuard widthsT guardsT netT three packedRow plannedRow judgedRow packT greedyT judgeTwo draws cleared first found firstRow foundPair largest least sum highest tooClose placed reach lowest packed height picked choose arranged pressed touches opposite marks isHigh sameMark hasSides twoSided lowSide draw drawnPlace swapped stateAfter tried round rounds improved leastGuard floor refuseIf _orElse_ scan square countFault sizeFault orderFault startFault clashFault sidesFault roundsFault listFault networkFault networkSizes judgeFault packFault twoSidesFault planFault improveFault floorFault unless judging refusedPacked donePacked packing pressing siding refusedPlanned donePlanned doneImproved improving flooring
 figures = refl
 
 -- the worked example of the plan program, and a sheet that is refused

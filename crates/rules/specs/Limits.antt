@@ -4,19 +4,19 @@ use mathlib.Core.Path.{_≡_}
 use mathlib.Core.Logic.{_⊎_}
 use mathlib.Core.List.{List}
 use lib.ListN.{length}
-use Rattle.rules.specs.Tables.{at, cell}
+use Rattle.rules.specs.Tables.{at, cell, Lent}
 
 -- "n is 1 to 128"; widths "128 numbers of 16 bits, each 1 to 64 slots"; guards "16,384 bytes", each 0 to 32 or 255, "The diagonal is 255. Cells
 -- of i,j and j,i are equal."
-pub record Network (n : ℕ) (widths guards : List ℕ) : Type 0 where
+pub record Network (n : ℕ) (lent : Lent) : Type 0 where
   pub some : 1 ≤ n
   pub few : n ≤ 128
-  pub widthsSize : length widths ≡ 128
-  pub guardsSize : length guards ≡ 16384
-  pub width : (k : ℕ) → k < n → (1 ≤ at widths k) × (at widths k ≤ 64)
-  pub guard : (i j : ℕ) → i < n → j < n → (at guards (cell i j) ≤ 32) ⊎ (at guards (cell i j) ≡ 255)
-  pub diagonal : (k : ℕ) → k < n → at guards (cell k k) ≡ 255
-  pub mirrored : (i j : ℕ) → i < n → j < n → at guards (cell i j) ≡ at guards (cell j i)
+  pub widthsSize : length (lent .widths) ≡ 128
+  pub guardsSize : length (lent .guards) ≡ 16384
+  pub width : (k : ℕ) → k < n → (1 ≤ at (lent .widths) k) × (at (lent .widths) k ≤ 64)
+  pub guard : (i j : ℕ) → i < n → j < n → (at (lent .guards) (cell i j) ≤ 32) ⊎ (at (lent .guards) (cell i j) ≡ 255)
+  pub diagonal : (k : ℕ) → k < n → at (lent .guards) (cell k k) ≡ 255
+  pub mirrored : (i j : ℕ) → i < n → j < n → at (lent .guards) (cell i j) ≡ at (lent .guards) (cell j i)
 
 -- "Starts: 128 numbers of 16 bits, each 1 to 16,384"
 pub record Starts (n : ℕ) (starts : List ℕ) : Type 0 where

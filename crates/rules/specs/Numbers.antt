@@ -5,7 +5,7 @@ use mathlib.Core.List.{List}
 use lib.ListN.{length}
 use lib.Dec.{ltb, leb, eqb}
 use Rattle.rules.specs.declared.Fault.{Fault}
-use Rattle.rules.specs.Tables.{at, cell}
+use Rattle.rules.specs.Tables.{at, cell, Lent}
 use Rattle.rules.specs.Scan.{first, found, firstRow, foundPair}
 use Rattle.rules.specs.Plan.{Net, netOf, inConflict, tooClose}
 use Rattle.rules.specs.Packing.{placed}
@@ -92,52 +92,54 @@ unfoldable pub listFault : ℕ → Net → List ℕ → Fault
 listFault n net list = refuseIf (outside 1 8 (length list)) 15 0 orElse scan 15 (badMember n net list) (length list)
 
 -- "Order for table calls: 2, 1, 3, 4, 5, then 6, 7, 8, 10, 15, 9 where they apply"; "4 is scanned over the whole square before 5"
-unfoldable pub networkFault : ℕ → List ℕ → List ℕ → Fault
-networkFault n widths guards = countFault n orElse scan 3 (badWidth widths) n orElse square 4 (badGuard guards) n orElse square 5 (badMirror guards) n
+unfoldable pub networkFault : ℕ → Lent → Fault
+networkFault n lent =
+    countFault n orElse scan 3 (badWidth (lent .widths)) n orElse square 4 (badGuard (lent .guards)) n
+    orElse square 5 (badMirror (lent .guards)) n
 
-unfoldable pub networkSizes : List ℕ → List ℕ → Fault
-networkSizes widths guards = sizeFault widths 128 orElse sizeFault guards 16384
+unfoldable pub networkSizes : Lent → Fault
+networkSizes lent = sizeFault (lent .widths) 128 orElse sizeFault (lent .guards) 16384
 
 -- judging and pressing
-unfoldable pub judgeFault : ℕ → List ℕ → List ℕ → List ℕ → Fault
-judgeFault n widths guards starts =
-    networkSizes widths guards orElse sizeFault starts 128 orElse networkFault n widths guards
-    orElse startFault n starts orElse clashFault n (netOf widths guards) starts
+unfoldable pub judgeFault : ℕ → Lent → List ℕ → Fault
+judgeFault n lent starts =
+    networkSizes lent orElse sizeFault starts 128 orElse networkFault n lent
+    orElse startFault n starts orElse clashFault n (netOf lent) starts
 
 -- packing
-unfoldable pub packFault : ℕ → List ℕ → List ℕ → List ℕ → List ℕ → Fault
-packFault n widths guards order starts =
-    networkSizes widths guards orElse sizeFault order 128 orElse sizeFault starts 128 orElse networkFault n widths guards
+unfoldable pub packFault : ℕ → Lent → List ℕ → List ℕ → Fault
+packFault n lent order starts =
+    networkSizes lent orElse sizeFault order 128 orElse sizeFault starts 128 orElse networkFault n lent
     orElse orderFault n order
 
 -- the two-sided call
-unfoldable pub twoSidesFault : ℕ → List ℕ → List ℕ → List ℕ → Fault
-twoSidesFault n widths guards order =
-    networkSizes widths guards orElse sizeFault order 128 orElse networkFault n widths guards
-    orElse sidesFault n (netOf widths guards)
+unfoldable pub twoSidesFault : ℕ → Lent → List ℕ → Fault
+twoSidesFault n lent order =
+    networkSizes lent orElse sizeFault order 128 orElse networkFault n lent
+    orElse sidesFault n (netOf lent)
 
 -- planning, which tests neither the lent order nor the starts
-unfoldable pub planFault : ℕ → List ℕ → List ℕ → List ℕ → List ℕ → ℕ → Fault
-planFault n widths guards order starts rounds =
-    networkSizes widths guards orElse sizeFault order 128 orElse sizeFault starts 128 orElse networkFault n widths guards
+unfoldable pub planFault : ℕ → Lent → List ℕ → List ℕ → ℕ → Fault
+planFault n lent order starts rounds =
+    networkSizes lent orElse sizeFault order 128 orElse sizeFault starts 128 orElse networkFault n lent
     orElse roundsFault rounds
 
 -- improving
-unfoldable pub improveFault : ℕ → List ℕ → List ℕ → List ℕ → List ℕ → ℕ → Fault
-improveFault n widths guards order starts rounds = packFault n widths guards order starts orElse roundsFault rounds
+unfoldable pub improveFault : ℕ → Lent → List ℕ → List ℕ → ℕ → Fault
+improveFault n lent order starts rounds = packFault n lent order starts orElse roundsFault rounds
 
 -- the floor
-unfoldable pub floorFault : ℕ → List ℕ → List ℕ → List ℕ → Fault
-floorFault n widths guards list =
-    networkSizes widths guards orElse networkFault n widths guards orElse listFault n (netOf widths guards) list
+unfoldable pub floorFault : ℕ → Lent → List ℕ → Fault
+floorFault n lent list =
+    networkSizes lent orElse networkFault n lent orElse listFault n (netOf lent) list
 
 -- "The writer: 2, 1 for n, 3, 4, 5, 11, 12, 1 for pairs, 7, 16." It tests the starts only where it writes them
-unfoldable pub sheetSizes : List ℕ → List ℕ → List ℕ → List ℕ → Fault
-sheetSizes labels widths guards starts = sizeFault labels 1024 orElse networkSizes widths guards orElse sizeFault starts 128
+unfoldable pub sheetSizes : List ℕ → Lent → List ℕ → Fault
+sheetSizes labels lent starts = sizeFault labels 1024 orElse networkSizes lent orElse sizeFault starts 128
 
-unfoldable pub writeFault : ℕ → List ℕ → List ℕ → List ℕ → List ℕ → List ℕ → Fault
-writeFault n labels widths guards starts text =
-    sheetSizes labels widths guards starts orElse networkFault n widths guards
-    orElse scan 11 (badLabel labels) n orElse scan 12 (labelTwice labels) n orElse refuseIf (ltb 2000 (pairs n guards)) 1 0
+unfoldable pub writeFault : ℕ → List ℕ → Lent → List ℕ → List ℕ → Fault
+writeFault n labels lent starts text =
+    sheetSizes labels lent starts orElse networkFault n lent
+    orElse scan 11 (badLabel labels) n orElse scan 12 (labelTwice labels) n orElse refuseIf (ltb 2000 (pairs n (lent .guards))) 1 0
     orElse scan 7 (λ k. hasPlan n starts && badStart starts k) n
-    orElse refuseIf (ltb (length text) (length (sheetText n labels widths guards starts))) 16 0
+    orElse refuseIf (ltb (length text) (length (sheetText n labels lent starts))) 16 0

@@ -3,9 +3,8 @@
 use Prim.Native.Nat.{ℕ, _+_, _-_, _≤_, _<_, max}
 use mathlib.Core.Logic.{_⊎_}
 use mathlib.Core.Bool.{Bool, not, _||_, _&&_}
-use mathlib.Core.List.{List}
 use lib.Dec.{ltb}
-use Rattle.rules.specs.Tables.{at, cell}
+use Rattle.rules.specs.Tables.{at, cell, Lent}
 use Rattle.rules.specs.Scan.{largest, least}
 
 -- a network: each path's width, the guard of two paths (255: no conflict), and each path's lowest start
@@ -15,8 +14,8 @@ pub record Net : Type 0 where
   pub low : ℕ → ℕ
 
 -- the network of the lent tables. Every lowest start is 1
-abbrev pub netOf : List ℕ → List ℕ → Net
-netOf widths guards = record { width = at widths; guard = λ i j. at guards (cell i j); low = λ k. 1 }
+abbrev pub netOf : Lent → Net
+netOf lent = record { width = at (lent .widths); guard = λ i j. at (lent .guards) (cell i j); low = λ k. 1 }
 
 -- "A value 0 to 32 is a conflict with that guard; 255 is no conflict. A guard of 0 is still a conflict." No other value passes the tests
 abbrev pub Conflict : Net → ℕ → ℕ → Type 0

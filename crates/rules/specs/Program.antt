@@ -6,7 +6,7 @@ use mathlib.Core.Bool.{Bool, cond}
 use mathlib.Core.List.{List, _++_}
 use lib.ListN.{take}
 use lib.Dec.{eqb}
-use Rattle.rules.specs.Tables.{cleared}
+use Rattle.rules.specs.Tables.{cleared, Lent, lend}
 use Rattle.rules.specs.Text.{bytes, lineFeed, numeral}
 use Rattle.rules.specs.Calls.{reading, planning, writing}
 
@@ -14,16 +14,16 @@ unfoldable pub refusalText : ℕ → ℕ → List ℕ
 refusalText number line = bytes "refused " ++ (numeral number ++ (bytes " line " ++ (numeral line ++ lineFeed)))
 
 -- the sheet of n paths with the starts that are planned for them; "The longest sheet has 45,489 bytes"
-unfoldable pub plannedText : ℕ → List ℕ → List ℕ → List ℕ → List ℕ → List ℕ
-plannedText n labels widths guards starts =
-    let planned = planning n widths guards (cleared 128 0) starts 1 1000 in
-    let written = writing n labels widths guards (planned .tables .1) (cleared 45489 0) in
+unfoldable pub plannedText : ℕ → List ℕ → Lent → List ℕ → List ℕ
+plannedText n labels lent starts =
+    let planned = planning n lent (cleared 128 0) starts 1 1000 in
+    let written = writing n labels lent (planned .tables .1) (cleared 45489 0) in
     take (written .answer .length) (written .tables)
 
 -- from the input to what is printed
 unfoldable pub printed : List ℕ → List ℕ
 printed input =
-    let sheet = reading input (cleared 1024 0) (cleared 128 0) (cleared 16384 0) (cleared 128 0) in
+    let sheet = reading input (cleared 1024 0) (lend (cleared 128 0) (cleared 16384 0)) (cleared 128 0) in
     cond (eqb (sheet .answer .number) 0)
-    (plannedText (sheet .answer .n) (sheet .tables .0) (sheet .tables .1) (sheet .tables .2) (sheet .tables .3))
+    (plannedText (sheet .answer .n) (sheet .tables .0) (sheet .tables .1) (sheet .tables .2))
     (refusalText (sheet .answer .number) (sheet .answer .place))

@@ -5,7 +5,7 @@ use mathlib.Core.List.{List, [], _∷_}
 use lib.ListN.{set}
 use lib.Seq.{sets}
 use lib.Dec.{leb, ltb, eqb}
-use Rattle.rules.specs.Tables.{at, cell, labelByte}
+use Rattle.rules.specs.Tables.{at, cell, Lent, lend, labelByte}
 use Rattle.rules.specs.Scan.{first, found}
 use Rattle.rules.specs.Text.{Parsed, none, some, then, word, space, lineFeed, pathsWord, guardsWord, startsWord, label, number}
 
@@ -120,9 +120,9 @@ guardsPart n labels guards starts l =
     after (lines (guardStep n labels) (n + 3) m 0 guards l₁) (λ t l₂.
     after (startsPart n (n + m + 3) labels starts l₂) (λ u l₃. done (t, u) l₃)))
 
--- a whole sheet, read over four tables: the number of paths and the tables afterwards
-unfoldable pub sheetFrom : List ℕ → List ℕ → List ℕ → List ℕ → List ℕ → Section (ℕ × List ℕ × List ℕ × List ℕ × List ℕ)
-sheetFrom labels widths guards starts l =
+-- a whole sheet, read over its tables: the number of paths and the tables afterwards
+unfoldable pub sheetFrom : List ℕ → Lent → List ℕ → List ℕ → Section (ℕ × List ℕ × Lent × List ℕ)
+sheetFrom labels lent starts l =
     counted (countLine pathsWord l) (λ n. leb 1 n && leb n 128) 1 (λ n l₁.
-    after (lines pathStep 2 n 0 (labels, widths) l₁) (λ t l₂.
-    after (guardsPart n (t .0) guards starts l₂) (λ u l₃. done (n, t .0, t .1, u .0, u .1) [])))
+    after (lines pathStep 2 n 0 (labels, lent .widths) l₁) (λ t l₂.
+    after (guardsPart n (t .0) (lent .guards) starts l₂) (λ u l₃. done (n, t .0, lend (t .1) (u .0), u .1) [])))

@@ -16,6 +16,18 @@ cell i j = 128 * i + j
 unfoldable pub cleared : ℕ → ℕ → List ℕ
 cleared size value = replicate size value
 
+-- the lent tables that make a network, as one thing: what each call that knows a network is given
+pub record Lent : Type 0 where
+  pub widths : List ℕ
+  pub guards : List ℕ
+
+abbrev pub lend : List ℕ → List ℕ → Lent
+lend widths guards = record { widths = widths; guards = guards }
+
+-- cleared: "widths and starts 0, guards 255"
+abbrev pub clearedNetwork : Lent
+clearedNetwork = lend (cleared 128 0) (cleared 16384 255)
+
 -- "Labels: 1,024 bytes, eight a path": byte j of path k's label
 abbrev pub labelByte : List ℕ → ℕ → ℕ → ℕ
 labelByte labels k j = at labels (8 * k + j)

@@ -4,7 +4,7 @@ use mathlib.Core.Bool.{Bool, cond, not, _&&_, _||_}
 use mathlib.Core.List.{List, [], _∷_, _++_}
 use lib.ListN.{length, take, drop}
 use lib.Dec.{ltb, eqb}
-use Rattle.rules.specs.Tables.{at, cell}
+use Rattle.rules.specs.Tables.{at, cell, Lent}
 use Rattle.rules.specs.Scan.{found, sum}
 use Rattle.rules.specs.Text.{space, lineFeed, pathsWord, guardsWord, startsWord, isLabelByte, run, numeral}
 use Rattle.rules.specs.Sheet.{isRow}
@@ -59,5 +59,5 @@ guardsText n labels guards = countText guardsWord (pairs n guards) ++ joinFrom n
 unfoldable pub startsText : ℕ → List ℕ → List ℕ → List ℕ
 startsText n labels starts = cond (hasPlan n starts) (countText startsWord n ++ joinFrom n 0 (pathText labels starts)) []
 
-unfoldable pub sheetText : ℕ → List ℕ → List ℕ → List ℕ → List ℕ → List ℕ
-sheetText n labels widths guards starts = pathsText n labels widths ++ (guardsText n labels guards ++ startsText n labels starts)
+unfoldable pub sheetText : ℕ → List ℕ → Lent → List ℕ → List ℕ
+sheetText n labels lent starts = pathsText n labels (lent .widths) ++ (guardsText n labels (lent .guards) ++ startsText n labels starts)
