@@ -3,7 +3,7 @@ ghost use mathlib.Core.Path.{_≡_};
 ghost use Rattle.rules.specs.Tables.{at};
 ghost use Rattle.rules.specs.Plan.{netOf, highest};
 ghost use Rattle.rules.specs.Packing.{lowest, packed};
-ghost use Rattle.laws.specs.Answers.{Packable};
+ghost use Rattle.plan_laws.specs.Answers.{Packable};
 
 #[no_mangle]
 pub extern "C" fn bench_pack_into(

@@ -8,7 +8,7 @@ use lib.Seq.{take-append-seam}
 use Rattle.rules.specs.Tables.{cleared}
 use Rattle.rules.specs.Calls.{reading}
 use Rattle.rules.specs.Program.{printed}
-use Rattle.laws.specs.FirstBytes.{first-bytes-from}
+use Rattle.sheet_laws.specs.FirstBytes.{first-bytes-from}
 
 pub printed-front : (l z : List ℕ) → 65536 ≤ length l → printed l ≡ printed (l ++ z)
 unfolding printed

@@ -6,8 +6,8 @@ use lib.ListN.{length, set, take, drop, length-take, length-set}
 use lib.Seq.{sets, getD-take}
 use native.Mathlib.Omega.{arith}
 use Rattle.rules.specs.Tables.{at}
-use Rattle.laws.specs.Texts.{here, past}
-use Rattle.laws.specs.Writes.{byte}
+use Rattle.sheet_laws.specs.Texts.{here, past}
+use Rattle.sheet_laws.specs.Writes.{byte}
 
 -- what there is room for
 abbrev pub room : List ℕ → ℕ → List ℕ → List ℕ

@@ -20,9 +20,9 @@ use Rattle.rules.specs.Writing.{sheetText, badLabel, labelTwice, pairs, hasPlan
 use Rattle.rules.specs.Numbers.{_orElse_, noFault, refuseIf, scan, badStart, sizeFault, networkSizes, networkFault, sheetSizes, writeFault}
 use Rattle.rules.specs.Calls.{Left, left, unless, planning, readOutcome, reading, writing}
 use Rattle.rules.specs.Program.{refusalText, plannedText, printed}
-use Rattle.laws.specs.Tables.{cleared-length}
-use Rattle.laws.specs.Writes.{both-pieces, digits-few}
-use Rattle.laws.specs.Faults.{or-clear, refuse-clear, size-good}
+use Rattle.table_laws.specs.Tables.{cleared-length}
+use Rattle.sheet_laws.specs.Writes.{both-pieces, digits-few}
+use Rattle.table_laws.specs.Faults.{or-clear, refuse-clear, size-good}
 
 abbrev Tables : Type 0
 Tables = List ℕ × List ℕ × List ℕ × List ℕ

@@ -11,10 +11,10 @@ use Rattle.rules.specs.Tables.{at, cleared}
 use Rattle.rules.specs.Plan.{netOf}
 use Rattle.rules.specs.Packing.{Order, lowest, height}
 use Rattle.rules.specs.Planning.{draw, drawnPlace, swapped, Run, stateAfter, tried, round, rounds, improved}
-use Rattle.laws.specs.Tables.{cleared-length}
-use Rattle.laws.specs.Answers.{Packable}
-use Rattle.laws.specs.OnImproving.{run-packable}
-use Rattle.laws.specs.Improve.{swapped-order, swapped-length, swapped-back, place-below, draw-below}
+use Rattle.table_laws.specs.Tables.{cleared-length}
+use Rattle.plan_laws.specs.Answers.{Packable}
+use Rattle.plan_laws.specs.Runs.{run-packable}
+use Rattle.plan_laws.specs.Improve.{swapped-order, swapped-length, swapped-back, place-below, draw-below}
 use Rattle.planning.specs.declared.rounds.Standing.{Standing}
 use Rattle.planning.specs.Standing.{runOf, highestOf, Tried}
 

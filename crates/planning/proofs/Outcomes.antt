@@ -22,15 +22,15 @@ use Rattle.rules.specs.Planning.{Run, startNext, greedy, improved}
 use Rattle.rules.specs.Floor.{leastGuard, floor}
 use Rattle.rules.specs.Numbers.{fault, noFault, refuseIf, _orElse_, sizeFault, networkFault, networkSizes, sidesFault, roundsFault, twoSidesFault, planFault, improveFault, packFault, floorFault}
 use Rattle.rules.specs.Calls.{left, unless, siding, refusedPlanned, donePlanned, doneImproved, improving, donePlan, planning, flooring}
-use Rattle.laws.specs.Faults.{refuse-bad, refuse-not, refuse-clear, or-clear, or-assoc, or-stop, size-clear}
-use Rattle.laws.specs.Tables.{cleared-length}
-use Rattle.laws.specs.Pack.{packed-length}
-use Rattle.laws.specs.Finding.{opposite-local}
-use Rattle.laws.specs.Limits.{network-within}
-use Rattle.laws.specs.Orders.{arranged-order, arranged-length}
-use Rattle.laws.specs.Answers.{unless-done, unless-refused, Packable, pack-clear, Sidable, clear-sides, sidable-siding, Floorable, floor-clear, Plannable, plan-clear}
-use Rattle.laws.specs.OnImproving.{run-packable}
-use Rattle.laws.specs.OnSiding.{sided-length, sided-order}
+use Rattle.table_laws.specs.Faults.{refuse-bad, refuse-not, refuse-clear, or-clear, or-assoc, or-stop, size-clear}
+use Rattle.table_laws.specs.Tables.{cleared-length}
+use Rattle.plan_laws.specs.Pack.{packed-length}
+use Rattle.plan_laws.specs.Sided.{opposite-local}
+use Rattle.table_laws.specs.Limits.{network-within}
+use Rattle.plan_laws.specs.Arranged.{arranged-order, arranged-length}
+use Rattle.plan_laws.specs.Answers.{unless-done, unless-refused, Packable, pack-clear, Sidable, clear-sides, sidable-siding, Floorable, floor-clear, Plannable, plan-clear}
+use Rattle.plan_laws.specs.Runs.{run-packable}
+use Rattle.plan_laws.specs.Sided.{sided-length, sided-order}
 use Rattle.planning.specs.declared.rounds.Standing.{Standing}
 use Rattle.planning.specs.Standing.{runOf}
 

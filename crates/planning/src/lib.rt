@@ -22,7 +22,7 @@ ghost use Rattle.rules.specs.Sides.{isHigh, twoSided};
 ghost use Rattle.rules.specs.Floor.{Clique, floor as floorOf};
 ghost use Rattle.rules.specs.Numbers.{_orElse_, sizeFault, roundsFault, networkFault, networkSizes, planFault, improveFault, floorFault};
 ghost use Rattle.rules.specs.Calls.{left, siding, donePlanned, doneImproved, improving, planning, flooring};
-ghost use Rattle.laws.specs.Answers.{Packable, Floorable};
+ghost use Rattle.plan_laws.specs.Answers.{Packable, Floorable};
 ghost use Rattle.planning.specs.Marked.{Marks};
 
 // 2, 1, 3, 4, 5, of a call that is lent an order of so many cells.

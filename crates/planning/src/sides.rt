@@ -9,8 +9,8 @@ ghost use Rattle.rules.specs.Tables.{at, cell, cleared};
 ghost use Rattle.rules.specs.Scan.{found, foundPair, sum};
 ghost use Rattle.rules.specs.Plan.{netOf};
 ghost use Rattle.rules.specs.Sides.{marks, isHigh, sameMark, hasSides, twoSided, lowSide};
-ghost use Rattle.laws.specs.Updates.{Updated};
-ghost use Rattle.laws.specs.Spreading.{Touched, Answered};
+ghost use Rattle.table_laws.specs.Updates.{Updated};
+ghost use Rattle.plan_laws.specs.Spreading.{Touched, Answered};
 
 // 0 where the pair is in conflict, and otherwise what stood there.
 fn touched(g: u8, x: u16) -> u16

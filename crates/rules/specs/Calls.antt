@@ -6,7 +6,6 @@ use mathlib.Core.List.{List, [], _++_}
 use lib.ListN.{length, drop}
 use lib.Dec.{eqb}
 use Rattle.rules.specs.declared.Fault.{Fault}
-use Rattle.rules.specs.declared.Judged.{Judged}
 use Rattle.rules.specs.declared.Packed.{Packed}
 use Rattle.rules.specs.declared.Sided.{Sided}
 use Rattle.rules.specs.declared.Planned.{Planned}
@@ -36,12 +35,9 @@ left answer tables = record { answer = answer; tables = tables }
 unfoldable pub unless : {A : Type 0} → Fault → (Fault → A) → A → A
 unless f refused result = cond (eqb (f .number) 0) result (refused f)
 
--- judge(n, widths, guards, starts)
-unfoldable pub judging : ℕ → Lent → List ℕ → Judged
-judging n lent starts =
-    unless (judgeFault n lent starts)
-    (λ f. record { number = f .number; place = f .place })
-    (record { number = 0; place = 0 })
+-- judge(n, widths, guards, starts): "the number and place alone"
+unfoldable pub judging : ℕ → Lent → List ℕ → Fault
+judging n lent starts = judgeFault n lent starts
 
 -- pack(n, widths, guards, order, starts), which writes the starts; so does pressing
 unfoldable pub refusedPacked : List ℕ → Fault → Left Packed (List ℕ)

@@ -6,7 +6,7 @@ use mathlib.Core.List.{List, [], _∷_, _++_}
 use lib.ListN.{take, set, replicate}
 use Rattle.rules.specs.declared.Packed.{Packed}
 use Rattle.rules.specs.declared.Planned.{Planned}
-use Rattle.rules.specs.declared.Judged.{Judged}
+use Rattle.rules.specs.declared.Fault.{Fault}
 use Rattle.rules.specs.Tables.{at, cell, cleared, Lent, lend}
 use Rattle.rules.specs.Scan.{first, found, firstRow, foundPair, largest, least, sum}
 use Rattle.rules.specs.Plan.{netOf, highest, tooClose}
@@ -16,9 +16,9 @@ use Rattle.rules.specs.Sides.{touches, opposite, marks, isHigh, sameMark
 use Rattle.rules.specs.Planning.{greedy, draw, drawnPlace, swapped, stateAfter, tried, round, rounds, improved}
 use Rattle.rules.specs.Floor.{leastGuard, floor}
 use Rattle.rules.specs.Text.{bytes, then, word, isDigit, isLabelByte, run, label, isPlain, valueFrom, number, spell, numeral}
-use Rattle.rules.specs.Sheet.{isRow, find, bytesFrom, putRow, follow, lines, countLine, pathLine, guardLine, pathMeans, pathStep, guardCell, guardMeans, guardStep, startMeans, startStep, counted, after, ended, startsPart, guardsPart, sheetFrom}
+use Rattle.rules.specs.Sheet.{isRow, find, bytesFrom, putRow, follow, lines, lastField, countLine, pathLine, guardLine, pathMeans, pathStep, guardCell, guardMeans, guardStep, startMeans, startStep, counted, after, ended, startsPart, guardsPart, sheetFrom}
 use Rattle.rules.specs.Writing.{labelOf, badLabel, labelTwice, isPair, pairs, hasPlan, joinFrom, countText, pathText, guardText, pathsText, guardsText, startsText, sheetText}
-use Rattle.rules.specs.Numbers.{refuseIf, _orElse_, scan, square, countFault, sizeFault, orderFault, startFault, clashFault, sidesFault, roundsFault, listFault, networkFault, networkSizes, judgeFault, packFault, twoSidesFault, planFault, improveFault, floorFault, sheetSizes, writeFault}
+use Rattle.rules.specs.Numbers.{refuseIf, _orElse_, scan, square, countFault, sizeFault, orderFault, startFault, clashFault, sidesFault, roundsFault, listFault, networkFault, networkSizes, lentFault, planSizes, judgeFault, packFault, twoSidesFault, planFault, improveFault, floorFault, labelSizes, sheetSizes, writeFault}
 use Rattle.rules.specs.Calls.{Left, unless, judging, refusedPacked, donePacked, packing, pressing, siding, refusedPlanned, donePlanned, doneImproved, improving, donePlan, planning, flooring, readOutcome, reading, writing}
 use Rattle.rules.specs.Program.{refusalText, plannedText, printed}
 
@@ -47,7 +47,7 @@ packedRow r = r .answer .number ∷ r .answer .place ∷ r .answer .highest ∷ 
 plannedRow : Left Planned (List ℕ × List ℕ) → List ℕ
 plannedRow r = r .answer .number ∷ r .answer .place ∷ r .answer .highest ∷ r .answer .kept ∷ take 3 (r .tables .0) ++ take 3 (r .tables .1)
 
-judgedRow : Judged → List ℕ
+judgedRow : Fault → List ℕ
 judgedRow r = r .number ∷ r .place ∷ []
 
 packT : List ℕ → List ℕ
@@ -88,7 +88,7 @@ figures :
     ∷ (0x3C6EF35F ∷ 0x47502932 ∷ 0 ∷ 1 ∷ [])
     ∷ (9 ∷ [])
     ∷ []
-unfolding withGuard widthsT guardsT netT three packedRow plannedRow judgedRow packT greedyT judgeTwo draws cleared first found firstRow foundPair largest least sum highest tooClose placed reach lowest packed height picked choose arranged pressed touches opposite marks isHigh sameMark hasSides twoSided lowSide draw drawnPlace swapped stateAfter tried round rounds improved leastGuard floor refuseIf _orElse_ scan square countFault sizeFault orderFault startFault clashFault sidesFault roundsFault listFault networkFault networkSizes judgeFault packFault twoSidesFault planFault improveFault floorFault unless judging refusedPacked donePacked packing pressing siding refusedPlanned donePlanned doneImproved improving flooring
+unfolding withGuard widthsT guardsT netT three packedRow plannedRow judgedRow packT greedyT judgeTwo draws cleared first found firstRow foundPair largest least sum highest tooClose placed reach lowest packed height picked choose arranged pressed touches opposite marks isHigh sameMark hasSides twoSided lowSide draw drawnPlace swapped stateAfter tried round rounds improved leastGuard floor refuseIf _orElse_ scan square countFault sizeFault orderFault startFault clashFault sidesFault roundsFault listFault networkFault networkSizes lentFault planSizes judgeFault packFault twoSidesFault planFault improveFault floorFault unless judging refusedPacked donePacked packing pressing siding refusedPlanned donePlanned doneImproved improving flooring
 figures = refl
 
 -- the worked example of the plan program, and a sheet that is refused
@@ -96,5 +96,5 @@ worked : List ℕ
 worked = bytes "paths 3\n0417 2\n417 4\nA9 3\nguards 2\n0417 417 1\n417 A9 2\n"
 
 program : (printed worked ∷ printed (bytes "paths 1\nA 1\nguards 01\n") ∷ []) ≡ (worked ++ bytes "starts 3\n0417 1\n417 6\nA9 1\n") ∷ bytes "refused 11 line 3\n" ∷ []
-unfolding worked cleared first found firstRow foundPair largest least sum highest placed reach lowest packed height picked choose arranged touches opposite marks isHigh sameMark hasSides twoSided draw drawnPlace swapped stateAfter tried round rounds improved then word isDigit isLabelByte run label isPlain valueFrom number spell numeral isRow find bytesFrom putRow follow lines countLine pathLine guardLine pathMeans pathStep guardCell guardMeans guardStep startMeans startStep counted after ended startsPart guardsPart sheetFrom labelOf badLabel labelTwice isPair pairs hasPlan joinFrom countText pathText guardText pathsText guardsText startsText sheetText refuseIf _orElse_ scan square countFault sizeFault roundsFault networkFault networkSizes planFault sheetSizes writeFault unless refusedPlanned donePlanned doneImproved donePlan planning readOutcome reading writing refusalText plannedText printed
+unfolding worked cleared first found firstRow foundPair largest least sum highest placed reach lowest packed height picked choose arranged touches opposite marks isHigh sameMark hasSides twoSided draw drawnPlace swapped stateAfter tried round rounds improved then word isDigit isLabelByte run label isPlain valueFrom number spell numeral isRow find bytesFrom putRow follow lines lastField countLine pathLine guardLine pathMeans pathStep guardCell guardMeans guardStep startMeans startStep counted after ended startsPart guardsPart sheetFrom labelOf badLabel labelTwice isPair pairs hasPlan joinFrom countText pathText guardText pathsText guardsText startsText sheetText refuseIf _orElse_ scan square countFault sizeFault roundsFault networkFault networkSizes lentFault planSizes planFault labelSizes sheetSizes writeFault unless refusedPlanned donePlanned doneImproved donePlan planning readOutcome reading writing refusalText plannedText printed
 program = refl

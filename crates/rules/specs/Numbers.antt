@@ -91,38 +91,40 @@ badMember n net list k = leb n (at list k) || found (λ i. eqb (at list i) (at l
 unfoldable pub listFault : ℕ → Net → List ℕ → Fault
 listFault n net list = refuseIf (outside 1 8 (length list)) 15 0 orElse scan 15 (badMember n net list) (length list)
 
--- "Order for table calls: 2, 1, 3, 4, 5, then 6, 7, 8, 10, 15, 9 where they apply"; "4 is scanned over the whole square before 5"
+-- A network that is lent, tested. 2: its tables are of their sizes
+unfoldable pub networkSizes : Lent → Fault
+networkSizes lent = sizeFault (lent .widths) 128 orElse sizeFault (lent .guards) 16384
+
+-- 1, 3, 4, 5: "4 is scanned over the whole square before 5"
 unfoldable pub networkFault : ℕ → Lent → Fault
 networkFault n lent =
     countFault n orElse scan 3 (badWidth (lent .widths)) n orElse square 4 (badGuard (lent .guards)) n
     orElse square 5 (badMirror (lent .guards)) n
 
-unfoldable pub networkSizes : Lent → Fault
-networkSizes lent = sizeFault (lent .widths) 128 orElse sizeFault (lent .guards) 16384
+-- "Order for table calls: 2, 1, 3, 4, 5, then 6, 7, 8, 10, 15, 9 where they apply." The first five are the same for every call; sizes is 2 of the
+-- tables that it is lent beside the network
+unfoldable pub lentFault : ℕ → Lent → Fault → Fault
+lentFault n lent sizes = networkSizes lent orElse sizes orElse networkFault n lent
 
 -- judging and pressing
 unfoldable pub judgeFault : ℕ → Lent → List ℕ → Fault
-judgeFault n lent starts =
-    networkSizes lent orElse sizeFault starts 128 orElse networkFault n lent
-    orElse startFault n starts orElse clashFault n (netOf lent) starts
+judgeFault n lent starts = lentFault n lent (sizeFault starts 128) orElse startFault n starts orElse clashFault n (netOf lent) starts
+
+-- 2, of an order and a table of starts
+unfoldable pub planSizes : List ℕ → List ℕ → Fault
+planSizes order starts = sizeFault order 128 orElse sizeFault starts 128
 
 -- packing
 unfoldable pub packFault : ℕ → Lent → List ℕ → List ℕ → Fault
-packFault n lent order starts =
-    networkSizes lent orElse sizeFault order 128 orElse sizeFault starts 128 orElse networkFault n lent
-    orElse orderFault n order
+packFault n lent order starts = lentFault n lent (planSizes order starts) orElse orderFault n order
 
 -- the two-sided call
 unfoldable pub twoSidesFault : ℕ → Lent → List ℕ → Fault
-twoSidesFault n lent order =
-    networkSizes lent orElse sizeFault order 128 orElse networkFault n lent
-    orElse sidesFault n (netOf lent)
+twoSidesFault n lent order = lentFault n lent (sizeFault order 128) orElse sidesFault n (netOf lent)
 
 -- planning, which tests neither the lent order nor the starts
 unfoldable pub planFault : ℕ → Lent → List ℕ → List ℕ → ℕ → Fault
-planFault n lent order starts rounds =
-    networkSizes lent orElse sizeFault order 128 orElse sizeFault starts 128 orElse networkFault n lent
-    orElse roundsFault rounds
+planFault n lent order starts rounds = lentFault n lent (planSizes order starts) orElse roundsFault rounds
 
 -- improving
 unfoldable pub improveFault : ℕ → Lent → List ℕ → List ℕ → ℕ → Fault
@@ -130,16 +132,19 @@ improveFault n lent order starts rounds = packFault n lent order starts orElse r
 
 -- the floor
 unfoldable pub floorFault : ℕ → Lent → List ℕ → Fault
-floorFault n lent list =
-    networkSizes lent orElse networkFault n lent orElse listFault n (netOf lent) list
+floorFault n lent list = lentFault n lent noFault orElse listFault n (netOf lent) list
+
+-- 2, of the labels and the starts of a sheet, and of all its tables
+unfoldable pub labelSizes : List ℕ → List ℕ → Fault
+labelSizes labels starts = sizeFault labels 1024 orElse sizeFault starts 128
+
+unfoldable pub sheetSizes : List ℕ → Lent → List ℕ → Fault
+sheetSizes labels lent starts = networkSizes lent orElse labelSizes labels starts
 
 -- "The writer: 2, 1 for n, 3, 4, 5, 11, 12, 1 for pairs, 7, 16." It tests the starts only where it writes them
-unfoldable pub sheetSizes : List ℕ → Lent → List ℕ → Fault
-sheetSizes labels lent starts = sizeFault labels 1024 orElse networkSizes lent orElse sizeFault starts 128
-
 unfoldable pub writeFault : ℕ → List ℕ → Lent → List ℕ → List ℕ → Fault
 writeFault n labels lent starts text =
-    sheetSizes labels lent starts orElse networkFault n lent
+    lentFault n lent (labelSizes labels starts)
     orElse scan 11 (badLabel labels) n orElse scan 12 (labelTwice labels) n orElse refuseIf (ltb 2000 (pairs n (lent .guards))) 1 0
     orElse scan 7 (λ k. hasPlan n starts && badStart starts k) n
     orElse refuseIf (ltb (length text) (length (sheetText n labels lent starts))) 16 0

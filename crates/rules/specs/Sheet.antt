@@ -44,15 +44,17 @@ unfoldable pub lines : {T : Type 0} → (ℕ → T → List ℕ → Line T) → 
 lines step top zero k t l = done t l
 lines step top (suc m) k t l = follow (step k t l) (top + k) (λ t′ l′. lines step top m (suc k) t′ l′)
 
--- The forms of the lines. A count's: a section's word, and a number
+-- The forms of the lines. Each ends in a number: one space, the number, one line feed
+unfoldable pub lastField : List ℕ → Parsed ℕ
+lastField l = then (word space l) (λ _ l₁. then (number l₁) (λ v l₂. then (word lineFeed l₂) (λ _ l₃. some v l₃)))
+
+-- a count's: a section's word, and a number
 unfoldable pub countLine : List ℕ → List ℕ → Parsed ℕ
-countLine w l =
-    then (word w l) (λ _ l₁. then (word space l₁) (λ _ l₂. then (number l₂) (λ v l₃. then (word lineFeed l₃) (λ _ l₄. some v l₄))))
+countLine w l = then (word w l) (λ _ l₁. lastField l₁)
 
 -- `label width`, and `label start`
 unfoldable pub pathLine : List ℕ → Parsed (List ℕ × ℕ)
-pathLine l =
-    then (label l) (λ w l₁. then (word space l₁) (λ _ l₂. then (number l₂) (λ v l₃. then (word lineFeed l₃) (λ _ l₄. some (w, v) l₄))))
+pathLine l = then (label l) (λ w l₁. then (lastField l₁) (λ v l₂. some (w, v) l₂))
 
 -- `label label guard`: a label, and then a line like a path's
 unfoldable pub guardLine : List ℕ → Parsed (List ℕ × (List ℕ × ℕ))

@@ -27,16 +27,42 @@ pub const PAIRS_MOST: usize = 2000;
 
 pub const SHEET_MOST: usize = 45489;
 
-// A refusal: its number and its place. 0 and 0 where nothing is at fault.
+// The numbers of the refusals. 0 is none.
+pub const REFUSED_COUNT: usize = 1;
+
+pub const REFUSED_SIZE: usize = 2;
+
+pub const REFUSED_WIDTH: usize = 3;
+
+pub const REFUSED_GUARD: usize = 4;
+
+pub const REFUSED_MIRROR: usize = 5;
+
+pub const REFUSED_ENTRY: usize = 6;
+
+pub const REFUSED_START: usize = 7;
+
+pub const REFUSED_CLASH: usize = 8;
+
+pub const REFUSED_NO_SIDES: usize = 9;
+
+pub const REFUSED_ROUNDS: usize = 10;
+
+pub const REFUSED_FORM: usize = 11;
+
+pub const REFUSED_LABEL_TWICE: usize = 12;
+
+pub const REFUSED_LABEL_UNKNOWN: usize = 13;
+
+pub const REFUSED_PAIR_TWICE: usize = 14;
+
+pub const REFUSED_LIST: usize = 15;
+
+pub const REFUSED_ROOM: usize = 16;
+
+// A refusal: its number and its place, 0 and 0 where nothing is at fault. Judging answers this alone.
 #[repr(C)]
 pub struct Fault {
-    pub number: usize,
-    pub place: usize,
-}
-
-// Judging answers the number and place alone.
-#[repr(C)]
-pub struct Judged {
     pub number: usize,
     pub place: usize,
 }

@@ -11,7 +11,7 @@ use Rattle.rules.specs.Tables.{cleared}
 use Rattle.rules.specs.Sheet.{Section, halt, done, after, sheetFrom}
 use Rattle.rules.specs.Numbers.{_orElse_, sizeFault, networkSizes, sheetSizes}
 use Rattle.rules.specs.Calls.{Left, left, unless, readOutcome, reading}
-use Rattle.laws.specs.Faults.{or-clear, size-clear}
+use Rattle.table_laws.specs.Faults.{or-clear, size-clear}
 use Rattle.sheet.specs.Written.{Sized}
 use Rattle.sheet.specs.Says.{SectionIs}
 use Rattle.sheet.specs.declared.Part.{Part}

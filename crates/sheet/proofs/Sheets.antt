@@ -15,8 +15,8 @@ use Rattle.rules.specs.Text.{pathsWord, guardsWord, startsWord}
 use Rattle.rules.specs.Writing.{badLabel, labelTwice, pairs, hasPlan, joinFrom, countText, pathText, pathsText, guardsText, startsText, sheetText}
 use Rattle.rules.specs.Numbers.{fault, noFault, refuseIf, _orElse_, scan, badStart, startFault, networkFault, sheetSizes, writeFault}
 use Rattle.rules.specs.Calls.{Left, left, unless, writing}
-use Rattle.laws.specs.Faults.{refuse-bad, refuse-not, or-first, or-second, or-clear, scan-none}
-use Rattle.laws.specs.Chains.{network-count}
+use Rattle.table_laws.specs.Faults.{refuse-bad, refuse-not, or-first, or-second, or-clear, scan-none}
+use Rattle.table_laws.specs.Chains.{network-count}
 use Rattle.sheet.specs.Written.{Sized, guardLines, planFault, tableFault}
 use Rattle.sheet.proofs.Answers.{sizes-clear}
 

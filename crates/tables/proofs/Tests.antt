@@ -11,7 +11,7 @@ use borrow.Author.Tests.{lt-ltb, le-ltb, lt-leb, le-leb, eq-eqb, ne-eqb, eqb-fal
 use borrow.Author.Count.{below-none, below-more}
 use Rattle.rules.specs.Tables.{at, cell}
 use Rattle.rules.specs.Numbers.{outside, badGuard, badMirror, badEntry}
-use Rattle.laws.specs.Marks.{Marked, marked-none, marked-more, marked-yes, marked-no}
+use Rattle.table_laws.specs.Marks.{Marked, marked-none, marked-more, marked-yes, marked-no}
 
 pub outside-low : (least most x : ℕ) → x < least → outside least most x ≡ true
 outside-low least most x h = rw (lt-ltb x least h)

@@ -4,8 +4,8 @@ use mathlib.Core.Path.{_≡_}
 use mathlib.Core.List.{List, [], _∷_}
 use lib.ListN.{set}
 use Rattle.rules.specs.Text.{numeral}
-use Rattle.laws.specs.Texts.{numeral-small, numeral-big}
-use Rattle.laws.specs.Writes.{both-pieces}
+use Rattle.sheet_laws.specs.Texts.{numeral-small, numeral-big}
+use Rattle.sheet_laws.specs.Writes.{both-pieces}
 use Rattle.text.specs.Says.{Wrote}
 
 module _ (l m : List ℕ) (place r v : ℕ) where

@@ -14,10 +14,10 @@ use Rattle.rules.specs.Tables.{at, labelByte}
 use Rattle.rules.specs.Scan.{first, found}
 use Rattle.rules.specs.Sheet.{isRow, find, putRow}
 use Rattle.rules.specs.Writing.{labelOf, badLabel, labelTwice}
-use Rattle.laws.specs.Writes.{good-label}
-use Rattle.laws.specs.Count.{each-suc}
-use Rattle.laws.specs.Tables.{at-same, at-other}
-use Rattle.laws.specs.Rows.{first-same, row-same, row-bytes, put-in, put-before}
+use Rattle.sheet_laws.specs.Writes.{good-label}
+use Rattle.table_laws.specs.Count.{each-suc}
+use Rattle.table_laws.specs.Tables.{at-same, at-other}
+use Rattle.sheet_laws.specs.Rows.{first-same, row-same, row-bytes, put-in, put-before}
 
 -- the first m bytes of f
 unfoldable pub pack : ℕ → (ℕ → ℕ) → ℕ

@@ -5,7 +5,7 @@ use borrow.Author.Needs.{needs}
 use lib.ListN.{length}
 use denote.Ref.{now}
 use Rattle.rules.specs.Tables.{at, cell}
-use Rattle.laws.specs.Writes.{label-short, digits-few, pair-length, guard-none, guard-some, pair-apart, pair-joined}
+use Rattle.sheet_laws.specs.Writes.{label-short, digits-few, pair-length, guard-none, guard-some, pair-apart, pair-joined}
 use Rattle.lines.proofs.guard_line_length.Statement.{statement}
 use Rattle.lines.proofs.guard_line_length.Tie as tie
 

@@ -11,7 +11,7 @@ use Rattle.text.specs.Keys.{Keyed, find-key}
 use Rattle.text.specs.Says.{part}
 use Rattle.lines.specs.Says.{GuardLineIs}
 use Rattle.lines.specs.declared.GuardLine.the-variants.{Pair, Unpaired}
-use Rattle.laws.specs.Lines.{guard-ill, guard-first, guard-second, guard-self, guard-twice, guard-over, guard-fine}
+use Rattle.sheet_laws.specs.Lines.{guard-ill, guard-first, guard-second, guard-self, guard-twice, guard-over, guard-fine}
 use Rattle.lines.proofs.guard_step.Statement.{statement}
 use Rattle.lines.proofs.guard_step.Tie as tie
 

@@ -10,7 +10,7 @@ use Rattle.rules.specs.Sheet.{right, find}
 use Rattle.text.specs.Keys.{find-key, keyed-more}
 use Rattle.text.specs.Says.{part, PathLineIs}
 use Rattle.text.specs.declared.PathLine.the-variants.{Fields, Malformed}
-use Rattle.laws.specs.Lines.{path-ill, path-twice, path-thin, path-wide, path-fine}
+use Rattle.sheet_laws.specs.Lines.{path-ill, path-twice, path-thin, path-wide, path-fine}
 use Rattle.lines.proofs.path_step.Statement.{statement}
 use Rattle.lines.proofs.path_step.Tie as tie
 

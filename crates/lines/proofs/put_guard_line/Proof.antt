@@ -8,7 +8,7 @@ use denote.Ref.{now}
 use Rattle.rules.specs.Tables.{at, cell}
 use Rattle.rules.specs.Text.{numeral, space, lineFeed}
 use Rattle.rules.specs.Writing.{labelOf, guardText}
-use Rattle.laws.specs.Writes.{pairText, pair-length, guard-none, guard-some, pair-apart, pair-joined, both-pieces}
+use Rattle.sheet_laws.specs.Writes.{pairText, pair-length, guard-none, guard-some, pair-apart, pair-joined, both-pieces}
 use Rattle.lines.proofs.put_guard_line.Statement.{statement}
 use Rattle.lines.proofs.put_guard_line.Tie as tie
 

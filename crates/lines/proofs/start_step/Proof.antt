@@ -12,7 +12,7 @@ use Rattle.rules.specs.Sheet.{isRow}
 use Rattle.text.specs.Keys.{Keyed, row-key}
 use Rattle.text.specs.Says.{part, PathLineIs}
 use Rattle.text.specs.declared.PathLine.the-variants.{Fields, Malformed}
-use Rattle.laws.specs.Lines.{start-ill, start-other, start-low, start-high, start-fine}
+use Rattle.sheet_laws.specs.Lines.{start-ill, start-other, start-low, start-high, start-fine}
 use Rattle.lines.proofs.start_step.Statement.{statement}
 use Rattle.lines.proofs.start_step.Tie as tie
 

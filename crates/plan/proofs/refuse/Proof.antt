@@ -1,7 +1,7 @@
 use native.Mathlib.Omega.{arith}
 use borrow.Author.Needs.{needs}
 use denote.Ref.{now}
-use Rattle.laws.specs.Writes.{digits-few}
+use Rattle.sheet_laws.specs.Writes.{digits-few}
 use Rattle.plan.proofs.Prints.{refusal-wrote}
 use Rattle.plan.proofs.refuse.Statement.{statement}
 use Rattle.plan.proofs.refuse.Tie as tie

@@ -1,7 +1,7 @@
-use Rattle.laws.specs.Chains.{number-of, size-is, sizes-clear}
-use Rattle.laws.specs.Faults.{or-stop, or-on, size-clear}
+use Rattle.table_laws.specs.Chains.{number-of, size-is, sizes-clear}
+use Rattle.table_laws.specs.Faults.{or-stop, or-on, size-clear}
 use Rattle.rules.specs.Numbers.{floorFault}
-use Rattle.laws.specs.Limits.{network-within}
+use Rattle.table_laws.specs.Limits.{network-within}
 use borrow.Author.Needs.{needs}
 use Rattle.planning.proofs.floor_fault.Statement.{statement}
 use Rattle.planning.proofs.floor_fault.Tie as tie

@@ -1,4 +1,4 @@
-use Rattle.laws.specs.Faults.{or-stop, or-on, size-clear}
+use Rattle.table_laws.specs.Faults.{or-stop, or-on, size-clear}
 use Rattle.rules.specs.Numbers.{improveFault}
 use borrow.Author.Needs.{needs}
 use Rattle.planning.proofs.improve_fault.Statement.{statement}

@@ -1,5 +1,5 @@
-use Rattle.laws.specs.Chains.{number-of, size-is, sizes-clear}
-use Rattle.laws.specs.Faults.{or-stop, or-on, size-clear}
+use Rattle.table_laws.specs.Chains.{number-of, size-is, sizes-clear}
+use Rattle.table_laws.specs.Faults.{or-stop, or-on, size-clear}
 use borrow.Author.Needs.{needs}
 use Rattle.planning.proofs.network_fault.Statement.{statement}
 use Rattle.planning.proofs.network_fault.Tie as tie

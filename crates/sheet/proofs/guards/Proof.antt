@@ -11,7 +11,7 @@ use Rattle.rules.specs.Sheet.{lines, guardStep}
 use Rattle.text.specs.Keys.{Keyed}
 use Rattle.lines.specs.Says.{StepIs, StepWithin}
 use Rattle.lines.specs.declared.Step.the-variants.{On, Refused}
-use Rattle.laws.specs.Lines.{lines-step, lines-halt, lines-end, guard-any}
+use Rattle.sheet_laws.specs.Lines.{lines-step, lines-halt, lines-end, guard-any}
 use Rattle.sheet.proofs.guards.Statement.{statement}
 use Rattle.sheet.proofs.guards.Tie as tie
 

@@ -5,7 +5,7 @@ use native.Mathlib.Nat.{sub-zero}
 use lib.ListN.{length}
 use denote.Ref.{now}
 use Rattle.rules.specs.Writing.{joinFrom, guardText}
-use Rattle.laws.specs.Writes.{join-length, join-none}
+use Rattle.sheet_laws.specs.Writes.{join-length, join-none}
 use Rattle.sheet.specs.Written.{guardLines}
 use Rattle.sheet.proofs.guards_length.Statement.{statement}
 use Rattle.sheet.proofs.guards_length.Tie as tie

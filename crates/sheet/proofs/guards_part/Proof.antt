@@ -11,7 +11,7 @@ use Rattle.text.specs.Says.{CountIs}
 use Rattle.text.specs.declared.Amount.the-variants.{Is, Unread}
 use Rattle.sheet.specs.Says.{PartWithin, SectionIs}
 use Rattle.sheet.specs.declared.Part.the-variants.{Over, Halt}
-use Rattle.laws.specs.Lines.{guards-ill, guards-many, guards-halt, guards-rest}
+use Rattle.sheet_laws.specs.Lines.{guards-ill, guards-many, guards-halt, guards-rest}
 use Rattle.sheet.proofs.Answers.{both, moved}
 use Rattle.sheet.proofs.guards_part.Statement.{statement}
 use Rattle.sheet.proofs.guards_part.Tie as tie

@@ -8,7 +8,7 @@ use lib.Dec.{eqb}
 use denote.Ref.{now}
 use Rattle.rules.specs.Tables.{at}
 use Rattle.rules.specs.Writing.{hasPlan}
-use Rattle.laws.specs.Scans.{found-at, found-none}
+use Rattle.table_laws.specs.Scans.{found-at, found-none}
 use Rattle.sheet.proofs.has_plan.Statement.{statement}
 use Rattle.sheet.proofs.has_plan.Tie as tie
 

@@ -5,7 +5,7 @@ use native.Mathlib.Omega.{arith}
 use borrow.Author.Count.{below-none, below-more}
 use denote.Ref.{now}
 use Rattle.rules.specs.Writing.{badLabel}
-use Rattle.laws.specs.Faults.{scan-at, scan-none}
+use Rattle.table_laws.specs.Faults.{scan-at, scan-none}
 use Rattle.sheet.proofs.label_fault.Statement.{statement}
 use Rattle.sheet.proofs.label_fault.Tie as tie
 

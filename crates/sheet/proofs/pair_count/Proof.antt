@@ -6,7 +6,7 @@ use denote.Ref.{now}
 use Rattle.rules.specs.Tables.{at}
 use Rattle.rules.specs.Scan.{sum}
 use Rattle.rules.specs.Writing.{isPair, pairs}
-use Rattle.laws.specs.Writes.{sum-next}
+use Rattle.table_laws.specs.Scans.{sum-next}
 use Rattle.sheet.proofs.pair_count.Statement.{statement}
 use Rattle.sheet.proofs.pair_count.Tie as tie
 

@@ -10,7 +10,7 @@ use Rattle.rules.specs.Sheet.{lines, pathStep}
 use Rattle.text.specs.Keys.{Keyed, keyed-none}
 use Rattle.lines.specs.Says.{PathStepIs}
 use Rattle.lines.specs.declared.Step.the-variants.{On}
-use Rattle.laws.specs.Lines.{lines-step, lines-halt, lines-end}
+use Rattle.sheet_laws.specs.Lines.{lines-step, lines-halt, lines-end}
 use Rattle.sheet.proofs.paths.Statement.{statement}
 use Rattle.sheet.proofs.paths.Tie as tie
 

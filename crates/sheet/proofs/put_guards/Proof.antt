@@ -7,7 +7,7 @@ use lib.ListN.{length}
 use lib.Seq.{sets}
 use denote.Ref.{now}
 use Rattle.rules.specs.Writing.{joinFrom, guardText}
-use Rattle.laws.specs.Writes.{join-step, join-end, join-length, piece}
+use Rattle.sheet_laws.specs.Writes.{join-step, join-end, join-length, piece}
 use Rattle.sheet.specs.Written.{guardLines}
 use Rattle.sheet.proofs.put_guards.Statement.{statement}
 use Rattle.sheet.proofs.put_guards.Tie as tie

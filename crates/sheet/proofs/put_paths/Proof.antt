@@ -7,7 +7,7 @@ use lib.ListN.{length}
 use lib.Seq.{sets}
 use denote.Ref.{now}
 use Rattle.rules.specs.Writing.{joinFrom, pathText}
-use Rattle.laws.specs.Writes.{join-step, join-end, join-length, piece}
+use Rattle.sheet_laws.specs.Writes.{join-step, join-end, join-length, piece}
 use Rattle.sheet.proofs.put_paths.Statement.{statement}
 use Rattle.sheet.proofs.put_paths.Tie as tie
 

@@ -6,7 +6,7 @@ use lib.ListN.{length}
 use lib.Seq.{sets}
 use denote.Ref.{now}
 use Rattle.rules.specs.Writing.{joinFrom, guardText}
-use Rattle.laws.specs.Writes.{row-skip, join-step, join-end, join-length, piece}
+use Rattle.sheet_laws.specs.Writes.{row-skip, join-step, join-end, join-length, piece}
 use Rattle.sheet.proofs.put_row_lines.Statement.{statement}
 use Rattle.sheet.proofs.put_row_lines.Tie as tie
 

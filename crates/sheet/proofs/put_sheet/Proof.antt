@@ -8,7 +8,7 @@ use denote.Ref.{now}
 use Rattle.rules.specs.Tables.{at}
 use Rattle.rules.specs.Text.{pathsWord, guardsWord}
 use Rattle.rules.specs.Writing.{pairs, joinFrom, countText, pathText, startsText}
-use Rattle.laws.specs.Writes.{both-pieces}
+use Rattle.sheet_laws.specs.Writes.{both-pieces}
 use Rattle.text.specs.Says.{Wrote}
 use Rattle.sheet.specs.Written.{guardLines}
 use Rattle.sheet.proofs.Sheets.{sheet-length, sheet-pieces}

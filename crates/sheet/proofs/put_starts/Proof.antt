@@ -4,7 +4,7 @@ use borrow.Author.Needs.{needs}
 use denote.Ref.{now}
 use Rattle.rules.specs.Text.{startsWord}
 use Rattle.rules.specs.Writing.{joinFrom, countText, pathText}
-use Rattle.laws.specs.Writes.{both-pieces}
+use Rattle.sheet_laws.specs.Writes.{both-pieces}
 use Rattle.sheet.proofs.Sheets.{starts-with, starts-without, starts-length}
 use Rattle.sheet.proofs.put_starts.Statement.{statement}
 use Rattle.sheet.proofs.put_starts.Tie as tie

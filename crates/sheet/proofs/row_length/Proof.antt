@@ -4,7 +4,7 @@ use native.Mathlib.Omega.{arith}
 use lib.ListN.{length}
 use denote.Ref.{now}
 use Rattle.rules.specs.Writing.{joinFrom, guardText}
-use Rattle.laws.specs.Writes.{row-skip, join-length, join-none}
+use Rattle.sheet_laws.specs.Writes.{row-skip, join-length, join-none}
 use Rattle.sheet.proofs.row_length.Statement.{statement}
 use Rattle.sheet.proofs.row_length.Tie as tie
 

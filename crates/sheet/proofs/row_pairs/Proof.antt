@@ -7,7 +7,8 @@ use denote.Ref.{now}
 use Rattle.rules.specs.Tables.{at, cell}
 use Rattle.rules.specs.Scan.{sum}
 use Rattle.rules.specs.Writing.{isPair}
-use Rattle.laws.specs.Writes.{pair-test, sum-next, pairs-before}
+use Rattle.sheet_laws.specs.Writes.{pair-test, pairs-before}
+use Rattle.table_laws.specs.Scans.{sum-next}
 use Rattle.sheet.proofs.row_pairs.Statement.{statement}
 use Rattle.sheet.proofs.row_pairs.Tie as tie
 

@@ -6,7 +6,7 @@ use lib.ListN.{length}
 use denote.Ref.{now}
 use Rattle.rules.specs.Text.{pathsWord, guardsWord}
 use Rattle.rules.specs.Writing.{countText}
-use Rattle.laws.specs.Writes.{digits-few, count-length}
+use Rattle.sheet_laws.specs.Writes.{digits-few, count-length}
 use Rattle.sheet.proofs.Sheets.{starts-length, sheet-length}
 use Rattle.sheet.proofs.sheet_length.Statement.{statement}
 use Rattle.sheet.proofs.sheet_length.Tie as tie

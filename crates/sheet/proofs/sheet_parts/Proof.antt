@@ -11,7 +11,7 @@ use Rattle.text.specs.Says.{CountIs}
 use Rattle.text.specs.declared.Amount.the-variants.{Is, Unread}
 use Rattle.sheet.specs.Says.{SectionIs, PathsAre}
 use Rattle.sheet.specs.declared.Part.the-variants.{Over, Halt}
-use Rattle.laws.specs.Lines.{sheet-ill, sheet-few, sheet-many, sheet-halt, sheet-later, sheet-done}
+use Rattle.sheet_laws.specs.Lines.{sheet-ill, sheet-few, sheet-many, sheet-halt, sheet-later, sheet-done}
 use Rattle.sheet.proofs.sheet_parts.Statement.{statement}
 use Rattle.sheet.proofs.sheet_parts.Tie as tie
 

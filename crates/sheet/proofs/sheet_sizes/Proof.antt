@@ -1,7 +1,7 @@
 use borrow.Author.Needs.{needs}
 use denote.Ref.{now}
 use Rattle.rules.specs.Numbers.{_orElse_, sizeFault, networkSizes, sheetSizes}
-use Rattle.laws.specs.Faults.{or-stop, or-on}
+use Rattle.table_laws.specs.Faults.{or-stop, or-on}
 use Rattle.sheet.proofs.sheet_sizes.Statement.{statement}
 use Rattle.sheet.proofs.sheet_sizes.Tie as tie
 

@@ -4,7 +4,7 @@ use borrow.Author.Needs.{needs}
 use lib.ListN.{length}
 use denote.Ref.{now}
 use Rattle.rules.specs.Text.{startsWord}
-use Rattle.laws.specs.Writes.{digits-few, count-length}
+use Rattle.sheet_laws.specs.Writes.{digits-few, count-length}
 use Rattle.sheet.proofs.Sheets.{starts-without, starts-length}
 use Rattle.sheet.proofs.starts_length.Statement.{statement}
 use Rattle.sheet.proofs.starts_length.Tie as tie

@@ -10,7 +10,7 @@ use Rattle.text.specs.Says.{CountIs}
 use Rattle.text.specs.declared.Amount.the-variants.{Is, Unread}
 use Rattle.sheet.specs.Says.{PartWithin, SectionIs}
 use Rattle.sheet.specs.declared.Part.the-variants.{Over, Halt}
-use Rattle.laws.specs.Lines.{starts-none, starts-ill, starts-count, starts-halt, starts-left, starts-done}
+use Rattle.sheet_laws.specs.Lines.{starts-none, starts-ill, starts-count, starts-halt, starts-left, starts-done}
 use Rattle.sheet.proofs.starts_part.Statement.{statement}
 use Rattle.sheet.proofs.starts_part.Tie as tie
 

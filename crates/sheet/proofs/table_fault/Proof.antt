@@ -7,11 +7,11 @@ use lib.Dec.{ltb}
 use denote.Ref.{now}
 use Rattle.rules.specs.Writing.{badLabel, labelTwice, pairs}
 use Rattle.rules.specs.Numbers.{scan, noFault, refuseIf, _orElse_, networkFault}
-use Rattle.laws.specs.Faults.{scan-clear, or-stop, or-on, refuse-bad, refuse-not}
+use Rattle.table_laws.specs.Faults.{scan-clear, or-stop, or-on, refuse-bad, refuse-not}
 use Rattle.sheet.specs.Written.{Sized, planFault, tableFault}
 use Rattle.sheet.proofs.Answers.{sizes-clear}
 use Rattle.rules.specs.declared.Fault.{Fault}
-use Rattle.laws.specs.Chains.{number-of, network-count}
+use Rattle.table_laws.specs.Chains.{number-of, network-count}
 use Rattle.sheet.proofs.table_fault.Statement.{statement}
 use Rattle.sheet.proofs.table_fault.Tie as tie
 

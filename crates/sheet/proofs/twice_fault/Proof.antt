@@ -9,7 +9,7 @@ use lib.ListN.{length, length-set}
 use lib.Dec.{ltb}
 use denote.Ref.{now}
 use Rattle.rules.specs.Writing.{labelTwice}
-use Rattle.laws.specs.Faults.{scan-at, scan-none}
+use Rattle.table_laws.specs.Faults.{scan-at, scan-none}
 use Rattle.text.specs.Keys.{Keyed, keyed-next, twice-key}
 use Rattle.sheet.proofs.twice_fault.Statement.{statement}
 use Rattle.sheet.proofs.twice_fault.Tie as tie

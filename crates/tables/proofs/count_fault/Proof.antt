@@ -1,7 +1,7 @@
-use Rattle.laws.specs.Limits.{outside-none}
+use Rattle.table_laws.specs.Limits.{outside-none}
 use mathlib.Core.Path.{sym, _∙_}
 use Rattle.rules.specs.Numbers.{outside, countFault}
-use Rattle.laws.specs.Faults.{refuse-bad, refuse-not}
+use Rattle.table_laws.specs.Faults.{refuse-bad, refuse-not}
 use Rattle.tables.proofs.Tests.{outside-low, outside-high}
 use borrow.Author.Needs.{needs}
 use Rattle.tables.proofs.count_fault.Statement.{statement}

@@ -6,7 +6,7 @@ use borrow.Author.Needs.{needs}
 use borrow.Author.Count.{below-none, below-more}
 use Rattle.rules.specs.Scan.{found}
 use Rattle.rules.specs.Numbers.{badGuard}
-use Rattle.laws.specs.Faults.{square-rows, square-hit, row-miss}
+use Rattle.table_laws.specs.Faults.{square-rows, square-hit, row-miss}
 use Rattle.tables.proofs.guard_fault.Statement.{statement}
 use Rattle.tables.proofs.guard_fault.Tie as tie
 

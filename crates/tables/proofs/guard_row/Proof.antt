@@ -2,7 +2,7 @@ use Prim.Native.Nat.{ℕ}
 use mathlib.Core.Path.{_≡_, sym, subst}
 use Rattle.rules.specs.Tables.{at, cell}
 use Rattle.rules.specs.Numbers.{badGuard}
-use Rattle.laws.specs.Scans.{first-none}
+use Rattle.table_laws.specs.Scans.{first-none}
 use Rattle.tables.proofs.Tests.{guard-right}
 use borrow.Author.Needs.{needs}
 use Rattle.tables.proofs.guard_row.Statement.{statement}

@@ -5,7 +5,7 @@ use native.Mathlib.Omega.{arith}
 use borrow.Author.Needs.{needs}
 use borrow.Author.Count.{below-none, below-more}
 use Rattle.rules.specs.Numbers.{badGuard}
-use Rattle.laws.specs.Scans.{first-none, first-at}
+use Rattle.table_laws.specs.Scans.{first-none, first-at}
 use Rattle.tables.proofs.guard_search.Statement.{statement}
 use Rattle.tables.proofs.guard_search.Tie as tie
 

@@ -1,6 +1,6 @@
 use mathlib.Core.Path.{sym}
 use Rattle.rules.specs.Numbers.{badMirror}
-use Rattle.laws.specs.Scans.{first-none}
+use Rattle.table_laws.specs.Scans.{first-none}
 use borrow.Author.Needs.{needs}
 use Rattle.tables.proofs.mirror_row.Statement.{statement}
 use Rattle.tables.proofs.mirror_row.Tie as tie

@@ -5,7 +5,7 @@ use native.Mathlib.Omega.{arith}
 use borrow.Author.Needs.{needs}
 use borrow.Author.Count.{below-more}
 use Rattle.rules.specs.Numbers.{badMirror}
-use Rattle.laws.specs.Scans.{first-none, first-at}
+use Rattle.table_laws.specs.Scans.{first-none, first-at}
 use Rattle.tables.proofs.Tests.{mirror-before, mirror-same, mirror-other}
 use Rattle.tables.proofs.mirror_search.Statement.{statement}
 use Rattle.tables.proofs.mirror_search.Tie as tie

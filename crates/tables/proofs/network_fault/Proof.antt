@@ -1,6 +1,6 @@
 use Rattle.rules.specs.Numbers.{networkFault}
-use Rattle.laws.specs.Faults.{or-stop, or-on}
-use Rattle.laws.specs.Chains.{number-of, count-clear}
+use Rattle.table_laws.specs.Faults.{or-stop, or-on}
+use Rattle.table_laws.specs.Chains.{number-of, count-clear}
 use borrow.Author.Needs.{needs}
 use Rattle.tables.proofs.network_fault.Statement.{statement}
 use Rattle.tables.proofs.network_fault.Tie as tie

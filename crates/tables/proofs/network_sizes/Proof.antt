@@ -1,5 +1,5 @@
 use Rattle.rules.specs.Numbers.{sizeFault, networkSizes}
-use Rattle.laws.specs.Faults.{or-stop, or-on}
+use Rattle.table_laws.specs.Faults.{or-stop, or-on}
 use borrow.Author.Needs.{needs}
 use Rattle.tables.proofs.network_sizes.Statement.{statement}
 use Rattle.tables.proofs.network_sizes.Tie as tie

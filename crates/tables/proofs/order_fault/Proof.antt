@@ -4,7 +4,7 @@ use native.Mathlib.Omega.{arith}
 use lib.ListN.{replicate, getD-replicate}
 use borrow.Author.Needs.{needs}
 use Rattle.rules.specs.Numbers.{badEntry, orderFault}
-use Rattle.laws.specs.Faults.{scan-none, scan-at}
+use Rattle.table_laws.specs.Faults.{scan-none, scan-at}
 use Rattle.tables.proofs.Tests.{Met, met-none, entry-over, entry-seen, met-more}
 use Rattle.tables.proofs.order_fault.Statement.{statement}
 use Rattle.tables.proofs.order_fault.Tie as tie

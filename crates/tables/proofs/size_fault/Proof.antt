@@ -1,6 +1,6 @@
 use mathlib.Core.Path.{refl, sym, _∙_}
 use borrow.Author.Tests.{eq-eqb, ne-eqb}
-use Rattle.laws.specs.Faults.{refuse-bad, refuse-not}
+use Rattle.table_laws.specs.Faults.{refuse-bad, refuse-not}
 use borrow.Author.Needs.{needs}
 use Rattle.tables.proofs.size_fault.Statement.{statement}
 use Rattle.tables.proofs.size_fault.Tie as tie

@@ -5,7 +5,7 @@ use native.Mathlib.Omega.{arith}
 use borrow.Author.Needs.{needs}
 use borrow.Author.Count.{below-none, below-more}
 use Rattle.rules.specs.Numbers.{badStart, startFault}
-use Rattle.laws.specs.Faults.{scan-none, scan-at}
+use Rattle.table_laws.specs.Faults.{scan-none, scan-at}
 use Rattle.tables.proofs.start_fault.Statement.{statement}
 use Rattle.tables.proofs.start_fault.Tie as tie
 

@@ -2,7 +2,7 @@ use Prim.Native.Nat.{ℕ, _<_}
 use mathlib.Core.Path.{_∙_}
 use native.Mathlib.Omega.{arith}
 use denote.Ref.{now}
-use Rattle.laws.specs.Writes.{digits-one, digits-more}
+use Rattle.sheet_laws.specs.Writes.{digits-one, digits-more}
 use Rattle.text.proofs.Pieces.{number-one, number-more}
 use borrow.Fn.Kinds.{In}
 use borrow.Fn.PlainCycle.{Measures, is, falls, and}

@@ -5,7 +5,7 @@ use lib.ListN.{length}
 use denote.Ref.{now}
 use Rattle.rules.specs.Tables.{labelByte}
 use Rattle.rules.specs.Writing.{labelOf}
-use Rattle.laws.specs.Writes.{label-short, bad-empty, bad-byte, bad-not}
+use Rattle.sheet_laws.specs.Writes.{label-short, bad-empty, bad-byte, bad-not}
 use native.Mathlib.Decide.{decLt}
 use Rattle.text.proofs.bad_label.Statement.{statement}
 use Rattle.text.proofs.bad_label.Tie as tie

@@ -1,7 +1,7 @@
 use native.Mathlib.Omega.{arith}
 use borrow.Author.Needs.{needs}
 use denote.Ref.{now}
-use Rattle.laws.specs.Writes.{digits-few, count-length}
+use Rattle.sheet_laws.specs.Writes.{digits-few, count-length}
 use Rattle.text.proofs.count_line_length.Statement.{statement}
 use Rattle.text.proofs.count_line_length.Tie as tie
 

@@ -8,7 +8,7 @@ use borrow.Author.Tests.{eq-eqb, ne-eqb}
 use denote.Ref.{now}
 use lib.Dec.{eqb}
 use Rattle.rules.specs.Tables.{at}
-use Rattle.laws.specs.Scans.{first-at, first-none}
+use Rattle.table_laws.specs.Scans.{first-at, first-none}
 use Rattle.text.proofs.find.Statement.{statement}
 use Rattle.text.proofs.find.Tie as tie
 

@@ -1,7 +1,7 @@
 use Rattle.text.specs.Says.{classOf}
 use denote.Ref.{now}
 use native.Mathlib.Omega.{arith}
-use Rattle.laws.specs.Texts.{label-none, label-long, label-some}
+use Rattle.sheet_laws.specs.Texts.{label-none, label-long, label-some}
 use borrow.Author.Needs.{needs}
 use Rattle.text.proofs.label.Statement.{statement}
 use Rattle.text.proofs.label.Tie as tie

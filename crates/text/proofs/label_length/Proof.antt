@@ -6,7 +6,7 @@ use lib.ListN.{length}
 use denote.Ref.{now}
 use Rattle.rules.specs.Text.{run, isLabelByte}
 use Rattle.rules.specs.Writing.{labelOf}
-use Rattle.laws.specs.Writes.{rowRest, rest-stop, rest-byte, rest-end, rest-start}
+use Rattle.sheet_laws.specs.Writes.{rowRest, rest-stop, rest-byte, rest-end, rest-start}
 use Rattle.text.specs.Says.{classOf}
 use Rattle.text.proofs.label_length.Statement.{statement}
 use Rattle.text.proofs.label_length.Tie as tie

@@ -5,7 +5,7 @@ use Rattle.rules.specs.Text.{some}
 use Rattle.text.specs.Says.{classOf}
 use lib.ListN.{drop}
 use Prim.Native.Nat.{ℕ}
-use Rattle.laws.specs.Texts.{number-none, number-long, number-led, number-zero, number-some}
+use Rattle.sheet_laws.specs.Texts.{number-none, number-long, number-led, number-zero, number-some}
 use borrow.Author.Needs.{needs}
 use Rattle.text.proofs.number.Statement.{statement}
 use Rattle.text.proofs.number.Tie as tie

@@ -1,6 +1,6 @@
 use Prim.Native.Nat.{_/_}
 use native.Mathlib.Omega.{arith}
-use Rattle.laws.specs.Writes.{digits-one, digits-more}
+use Rattle.sheet_laws.specs.Writes.{digits-one, digits-more}
 use Rattle.text.proofs.number_length.Statement.{statement}
 use Rattle.text.proofs.number_length.Tie as tie
 

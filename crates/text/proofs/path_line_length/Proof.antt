@@ -2,7 +2,7 @@ use native.Mathlib.Omega.{arith}
 use borrow.Author.Needs.{needs}
 use denote.Ref.{now}
 use Rattle.rules.specs.Tables.{at}
-use Rattle.laws.specs.Writes.{label-short, digits-few, path-length, path-bound}
+use Rattle.sheet_laws.specs.Writes.{label-short, digits-few, path-length, path-bound}
 use Rattle.text.proofs.path_line_length.Statement.{statement}
 use Rattle.text.proofs.path_line_length.Tie as tie
 

@@ -4,7 +4,7 @@ use borrow.Author.Needs.{needs}
 use denote.Ref.{now}
 use Rattle.rules.specs.Text.{numeral, space, lineFeed}
 use Rattle.rules.specs.Writing.{countText}
-use Rattle.laws.specs.Writes.{count-length, both-pieces}
+use Rattle.sheet_laws.specs.Writes.{count-length, both-pieces}
 use Rattle.text.proofs.put_count_line.Statement.{statement}
 use Rattle.text.proofs.put_count_line.Tie as tie
 

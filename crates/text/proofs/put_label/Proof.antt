@@ -9,7 +9,7 @@ use denote.Ref.{now}
 use Rattle.rules.specs.Tables.{labelByte}
 use Rattle.rules.specs.Text.{run, isLabelByte}
 use Rattle.rules.specs.Writing.{labelOf}
-use Rattle.laws.specs.Writes.{rowRest, rest-stop, rest-byte, rest-end, rest-start, byte}
+use Rattle.sheet_laws.specs.Writes.{rowRest, rest-stop, rest-byte, rest-end, rest-start, byte}
 use Rattle.text.specs.Says.{classOf}
 use Rattle.text.proofs.put_label.Statement.{statement}
 use Rattle.text.proofs.put_label.Tie as tie

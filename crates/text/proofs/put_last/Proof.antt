@@ -2,7 +2,7 @@ use mathlib.Core.List.{_++_}
 use borrow.Author.Needs.{needs}
 use denote.Ref.{now}
 use Rattle.rules.specs.Text.{numeral, space, lineFeed}
-use Rattle.laws.specs.Writes.{both-pieces}
+use Rattle.sheet_laws.specs.Writes.{both-pieces}
 use Rattle.text.proofs.put_last.Statement.{statement}
 use Rattle.text.proofs.put_last.Tie as tie
 

@@ -5,7 +5,7 @@ use denote.Ref.{now}
 use Rattle.rules.specs.Tables.{at}
 use Rattle.rules.specs.Text.{numeral, space, lineFeed}
 use Rattle.rules.specs.Writing.{labelOf, pathText}
-use Rattle.laws.specs.Writes.{path-length, both-pieces}
+use Rattle.sheet_laws.specs.Writes.{path-length, both-pieces}
 use Rattle.text.proofs.put_path_line.Statement.{statement}
 use Rattle.text.proofs.put_path_line.Tie as tie
 

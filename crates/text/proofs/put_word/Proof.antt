@@ -6,8 +6,8 @@ use lib.ListN.{length, drop}
 use lib.Seq.{sets}
 use denote.Ref.{now}
 use Rattle.rules.specs.Tables.{at}
-use Rattle.laws.specs.Texts.{here, past}
-use Rattle.laws.specs.Writes.{byte}
+use Rattle.sheet_laws.specs.Texts.{here, past}
+use Rattle.sheet_laws.specs.Writes.{byte}
 use Rattle.text.proofs.put_word.Statement.{statement}
 use Rattle.text.proofs.put_word.Tie as tie
 

@@ -6,7 +6,7 @@ use native.Mathlib.Omega.{arith}
 use lib.ListN.{length, drop}
 use Rattle.rules.specs.Text.{run}
 use Rattle.text.specs.Says.{classOf}
-use Rattle.laws.specs.Texts.{run-end, run-stop, run-step}
+use Rattle.sheet_laws.specs.Texts.{run-end, run-stop, run-step}
 use Rattle.text.proofs.run_end.Statement.{statement}
 use Rattle.text.proofs.run_end.Tie as tie
 

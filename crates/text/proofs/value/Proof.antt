@@ -1,6 +1,6 @@
 use lib.Dec.{lit<}
 use denote.Ref.{now}
-use Rattle.laws.specs.Texts.{digit-bounds, run-more, value-step, value-end, digits-more, digits-few, run-step}
+use Rattle.sheet_laws.specs.Texts.{digit-bounds, run-more, value-step, value-end, digits-more, digits-few, run-step}
 use Prim.Native.Nat.{ℕ, _+_, _-_, _^_, _≤_, _<_}
 use mathlib.Core.Path.{_≡_, refl, sym, ap, _∙_}
 use mathlib.Core.Bool.{true}

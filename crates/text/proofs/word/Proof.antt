@@ -1,5 +1,5 @@
 use denote.Ref.{now}
-use Rattle.laws.specs.Texts.{word-step, word-differs, word-short, word-done}
+use Rattle.sheet_laws.specs.Texts.{word-step, word-differs, word-short, word-done}
 use Prim.Native.Nat.{_-_, _≤_}
 use mathlib.Core.Path.{_≡_, refl, sym, _∙_}
 use native.Mathlib.Omega.{arith}

@@ -3,7 +3,7 @@ use Prim.Native.Nat.{ℕ, _≤_, _<_, _-_}
 use mathlib.Core.Path.{_≡_, sym, _∙_}
 use mathlib.Core.Bool.{false}
 use borrow.Author.Count.{below-none, below-more}
-use Rattle.laws.specs.Scans.{found-at, found-none}
+use Rattle.table_laws.specs.Scans.{found-at, found-none}
 use Rattle.planning.specs.Listed.{stranger}
 use Rattle.planning.proofs.cliques.has_stranger.Statement.{statement}
 use Rattle.planning.proofs.cliques.has_stranger.Tie as tie

@@ -5,7 +5,7 @@ use native.Mathlib.Numerals.{add-one}
 use borrow.Author.Needs.{needs}
 use Rattle.rules.specs.Tables.{at, cell}
 use Rattle.rules.specs.Scan.{least}
-use Rattle.laws.specs.Scans.{least-next}
+use Rattle.table_laws.specs.Scans.{least-next}
 use Rattle.planning.proofs.cliques.least_before.Statement.{statement}
 use Rattle.planning.proofs.cliques.least_before.Tie as tie
 

@@ -7,7 +7,7 @@ use lib.ListN.{length}
 use Rattle.rules.specs.Tables.{at, cell}
 use Rattle.rules.specs.Scan.{least}
 use Rattle.rules.specs.Floor.{leastGuard}
-use Rattle.laws.specs.Scans.{least-next}
+use Rattle.table_laws.specs.Scans.{least-next}
 use Rattle.planning.specs.Listed.{Listed}
 use Rattle.planning.proofs.cliques.least_guard.Statement.{statement}
 use Rattle.planning.proofs.cliques.least_guard.Tie as tie

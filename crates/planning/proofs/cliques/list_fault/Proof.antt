@@ -9,8 +9,8 @@ use lib.ListN.{length}
 use Rattle.rules.specs.declared.Fault.{Fault}
 use Rattle.rules.specs.Plan.{Net, netOf}
 use Rattle.rules.specs.Numbers.{fault, noFault, refuseIf, outside, scan, badMember, listFault}
-use Rattle.laws.specs.Faults.{refuse-bad, refuse-not, or-stop, or-on}
-use Rattle.laws.specs.Limits.{outside-none}
+use Rattle.table_laws.specs.Faults.{refuse-bad, refuse-not, or-stop, or-on}
+use Rattle.table_laws.specs.Limits.{outside-none}
 use borrow.Author.Needs.{needs}
 use Rattle.planning.proofs.cliques.list_fault.Statement.{statement}
 use Rattle.planning.proofs.cliques.list_fault.Tie as tie

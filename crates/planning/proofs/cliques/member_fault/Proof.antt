@@ -11,7 +11,7 @@ use lib.ListN.{length}
 use Rattle.rules.specs.Tables.{at}
 use Rattle.rules.specs.Plan.{netOf}
 use Rattle.rules.specs.Numbers.{badMember}
-use Rattle.laws.specs.Faults.{scan-at, scan-none}
+use Rattle.table_laws.specs.Faults.{scan-at, scan-none}
 use Rattle.planning.proofs.cliques.member_fault.Statement.{statement}
 use Rattle.planning.proofs.cliques.member_fault.Tie as tie
 

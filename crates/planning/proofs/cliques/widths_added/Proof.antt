@@ -5,7 +5,7 @@ use native.Mathlib.Numerals.{add-one}
 use lib.ListN.{length}
 use Rattle.rules.specs.Tables.{at}
 use Rattle.rules.specs.Scan.{sum}
-use Rattle.laws.specs.Scans.{sum-next}
+use Rattle.table_laws.specs.Scans.{sum-next}
 use Rattle.planning.proofs.cliques.widths_added.Statement.{statement}
 use Rattle.planning.proofs.cliques.widths_added.Tie as tie
 

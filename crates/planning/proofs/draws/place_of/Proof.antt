@@ -3,7 +3,7 @@ use mathlib.Core.Path.{refl}
 use native.Mathlib.Omega.{arith}
 use native.Mathlib.Nat.{mul-le-mul-right}
 use Rattle.rules.specs.Planning.{drawnPlace}
-use Rattle.laws.specs.Improve.{place-below}
+use Rattle.plan_laws.specs.Improve.{place-below}
 use borrow.Author.Needs.{needs}
 use Rattle.planning.proofs.draws.place_of.Statement.{statement}
 use Rattle.planning.proofs.draws.place_of.Tie as tie

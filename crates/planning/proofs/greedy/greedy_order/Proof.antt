@@ -5,7 +5,7 @@ use mathlib.Core.Path.{_≡_, refl}
 use mathlib.Core.List.{List}
 use lib.ListN.{length, replicate, getD-replicate}
 use Rattle.rules.specs.Tables.{at}
-use Rattle.laws.specs.Growing.{Growing, growing-first, growing-below, growing-bound, growing-more, growing-last}
+use Rattle.plan_laws.specs.Growing.{Growing, growing-first, growing-below, growing-bound, growing-more, growing-last}
 use Rattle.planning.proofs.greedy.greedy_order.Statement.{statement}
 use Rattle.planning.proofs.greedy.greedy_order.Tie as tie
 

@@ -9,7 +9,7 @@ use Rattle.rules.specs.Tables.{at}
 use Rattle.rules.specs.Scan.{found, foundPair}
 use Rattle.rules.specs.Plan.{netOf}
 use Rattle.rules.specs.Sides.{sameMark}
-use Rattle.laws.specs.Scans.{found-at, found-none}
+use Rattle.table_laws.specs.Scans.{found-at, found-none}
 use Rattle.planning.proofs.sides.are_sides.Statement.{statement}
 use Rattle.planning.proofs.sides.are_sides.Tie as tie
 

@@ -5,7 +5,7 @@ use mathlib.Core.Path.{refl}
 use mathlib.Core.Bool.{cond}
 use lib.Dec.{ltb, eqb}
 use Rattle.rules.specs.Tables.{at, cell}
-use Rattle.laws.specs.Updates.{Updated, update-none, update-more, update-all}
+use Rattle.table_laws.specs.Updates.{Updated, update-none, update-more, update-all}
 use Rattle.planning.proofs.sides.high_keys.Statement.{statement}
 use Rattle.planning.proofs.sides.high_keys.Tie as tie
 

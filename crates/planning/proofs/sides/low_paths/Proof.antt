@@ -8,7 +8,7 @@ use lib.Dec.{eqb}
 use Rattle.rules.specs.Tables.{at}
 use Rattle.rules.specs.Scan.{sum}
 use Rattle.rules.specs.Sides.{lowSide}
-use Rattle.laws.specs.Scans.{sum-next}
+use Rattle.table_laws.specs.Scans.{sum-next}
 use Rattle.planning.proofs.sides.low_paths.Statement.{statement}
 use Rattle.planning.proofs.sides.low_paths.Tie as tie
 

@@ -5,8 +5,8 @@ use mathlib.Core.Path.{_≡_, refl, sym, ap, _∙_}
 use mathlib.Core.List.{List, []}
 use lib.ListN.{length, replicate, getD-replicate}
 use Rattle.rules.specs.Tables.{at}
-use Rattle.laws.specs.Tables.{cleared-length}
-use Rattle.laws.specs.Spreading.{Spreading, spreading-first, spreading-below, spreading-more, spreading-last}
+use Rattle.table_laws.specs.Tables.{cleared-length}
+use Rattle.plan_laws.specs.Spreading.{Spreading, spreading-first, spreading-below, spreading-more, spreading-last}
 use Rattle.planning.proofs.sides.mark_sides.Statement.{statement}
 use Rattle.planning.proofs.sides.mark_sides.Tie as tie
 

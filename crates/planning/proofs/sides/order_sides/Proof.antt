@@ -1,6 +1,6 @@
 use mathlib.Core.Path.{_∙_}
 use Rattle.rules.specs.Sides.{twoSided}
-use Rattle.laws.specs.Orders.{arranged-keys}
+use Rattle.plan_laws.specs.Arranged.{arranged-keys}
 use borrow.Author.Needs.{needs}
 use Rattle.planning.proofs.sides.order_sides.Statement.{statement}
 use Rattle.planning.proofs.sides.order_sides.Tie as tie

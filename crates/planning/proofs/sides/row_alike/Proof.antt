@@ -9,7 +9,7 @@ use lib.Dec.{ltb, eqb}
 use Rattle.rules.specs.Tables.{at, cell}
 use Rattle.rules.specs.Scan.{found}
 use Rattle.rules.specs.Sides.{sameMark}
-use Rattle.laws.specs.Scans.{found-none, found-suc}
+use Rattle.table_laws.specs.Scans.{found-none, found-suc}
 use Rattle.planning.proofs.sides.row_alike.Statement.{statement}
 use Rattle.planning.proofs.sides.row_alike.Tie as tie
 

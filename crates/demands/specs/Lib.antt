@@ -1,0 +1,27 @@
+-- plans
+pub mod Press
+pub mod Mirror
+pub mod Floor
+pub mod TwoSided
+pub mod Finding
+-- the calls as they answer
+pub mod OnJudging
+pub mod OnPacking
+pub mod OnImproving
+pub mod OnSiding
+pub mod OnPlanning
+pub mod OnPressing
+pub mod OnFlooring
+-- no second answer, and programs that are unfit
+pub mod OneAnswer
+pub mod Witness
+pub mod Unfit
+-- what is written is read back
+pub mod Writable
+pub mod Kept
+pub mod RoundTrip
+pub mod GuardTrip
+pub mod SheetTrip
+pub mod SameBytes
+pub mod Longest
+pub mod ReadBack

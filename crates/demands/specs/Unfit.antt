@@ -1,0 +1,179 @@
+-- Programs shown unfit, as document 01 asks ("How tight the promises are"), and a network within the limits, so that the theorems are about
+-- something. A program for a call is any function from what the call is given to what it leaves behind. Assumes nothing.
+use Prim.Native.Nat.{ℕ, suc, _≤_}
+use mathlib.Core.Path.{_≡_, refl, sym, ap, _∙_}
+use mathlib.Core.Logic.{_≢_}
+use mathlib.Core.Bool.{cond}
+use mathlib.Core.List.{List, [], _∷_}
+use native.Mathlib.Omega.{arith}
+use lib.Dec.{ltb}
+use Rattle.rules.specs.declared.Fault.{Fault}
+use Rattle.rules.specs.declared.Packed.{Packed}
+use Rattle.rules.specs.declared.Sided.{Sided}
+use Rattle.rules.specs.declared.Planned.{Planned}
+use Rattle.rules.specs.declared.Floored.{Floored}
+use Rattle.rules.specs.declared.SheetRead.{SheetRead}
+use Rattle.rules.specs.declared.SheetWritten.{SheetWritten}
+use Rattle.rules.specs.Tables.{at, cleared, Lent, clearedNetwork}
+use Rattle.rules.specs.Limits.{Network}
+use Rattle.rules.specs.Scan.{sum}
+use Rattle.rules.specs.Better.{comparing}
+use Rattle.rules.specs.Calls.{Left, judging, packing, pressing, siding, improving, planning, flooring, reading, writing}
+use Rattle.rules.specs.Figures.{netT, three}
+use Rattle.demands.specs.Witness.{netTwo, netOne, onePath, labelA, answers, betterT, differs}
+use Rattle.table_laws.specs.Scans.{sum-same}
+use Rattle.table_laws.specs.Limits.{network-within}
+use Rattle.plan_laws.specs.Answers.{Packable, improving-packable, packable-improves}
+use Rattle.plan_laws.specs.Runs.{runAfter, run-kept}
+use Rattle.demands.specs.OnImproving.{improving-highest, improving-kept}
+
+-- entry k of a list of numbers that were computed
+entry : {xs ys : List ℕ} (k : ℕ) → xs ≡ ys → at xs k ≡ at ys k
+entry k e = ap (λ (l : List ℕ). at l k) e
+
+-- T is within the limits
+pub networkT : Network 3 netT
+networkT = network-within 3 netT (entry 9 answers) (entry 10 answers)
+
+-- a program meets a definition
+abbrev pub Meets : {Given Leaves : Type 0} → (Given → Leaves) → (Given → Leaves) → Type 0
+Meets {Given} program definition = (g : Given) → program g ≡ definition g
+
+-- the definitions of the calls, each over all that the call is given
+abbrev Table : Type 0
+Table = List ℕ
+
+abbrev pub judgingOf : ℕ × Lent × Table → Fault
+judgingOf (n, lent, starts) = judging n lent starts
+
+abbrev pub packingOf : ℕ × Lent × Table × Table → Left Packed Table
+packingOf (n, lent, order, starts) = packing n lent order starts
+
+abbrev pub pressingOf : ℕ × Lent × Table → Left Packed Table
+pressingOf (n, lent, starts) = pressing n lent starts
+
+abbrev pub sidingOf : ℕ × Lent × Table → Left Sided Table
+sidingOf (n, lent, order) = siding n lent order
+
+abbrev pub planningOf : ℕ × Lent × Table × Table × ℕ × ℕ → Left Planned (Table × Table)
+planningOf (n, lent, order, starts, seed, rounds) = planning n lent order starts seed rounds
+
+abbrev pub improvingOf : ℕ × Lent × Table × Table × ℕ × ℕ → Left Planned (Table × Table)
+improvingOf (n, lent, order, starts, seed, rounds) = improving n lent order starts seed rounds
+
+abbrev pub flooringOf : ℕ × Lent × Table → Floored
+flooringOf (n, lent, list) = flooring n lent list
+
+abbrev pub readingOf : Table × Table × Lent × Table → Left SheetRead (Table × Lent × Table)
+readingOf (text, labels, lent, starts) = reading text labels lent starts
+
+abbrev pub writingOf : ℕ × Table × Lent × Table × Table → Left SheetWritten Table
+writingOf (n, labels, lent, starts, text) = writing n labels lent starts text
+
+-- (1) A program that refuses everything meets the definition of no call
+abbrev pub Refuses : {Given Leaves : Type 0} → (Leaves → ℕ) → (Given → Leaves) → Type 0
+Refuses {Given} number program = (g : Given) → number (program g) ≢ 0
+
+refusing-unfit : {Given Leaves : Type 0} (number : Leaves → ℕ) (definition program : Given → Leaves) (given : Given) → number (definition given) ≡ 0
+    → Meets program definition → Refuses number program → ⊥
+refusing-unfit number definition program given done meets refuses = refuses given (ap number (meets given) ∙ done)
+
+pub judge-refusing : (program : ℕ × Lent × Table → Fault) → Meets program judgingOf → Refuses (λ r. r .number) program → ⊥
+judge-refusing program = refusing-unfit (λ r. r .number) judgingOf program (3, netT, three 1 4 10) (entry 0 answers)
+
+pub pack-refusing : (program : ℕ × Lent × Table × Table → Left Packed Table) → Meets program packingOf → Refuses (λ r. r .answer .number) program → ⊥
+pack-refusing program = refusing-unfit (λ r. r .answer .number) packingOf program (3, netT, three 0 1 2, three 0 0 0) (entry 1 answers)
+
+pub press-refusing : (program : ℕ × Lent × Table → Left Packed Table) → Meets program pressingOf → Refuses (λ r. r .answer .number) program → ⊥
+press-refusing program = refusing-unfit (λ r. r .answer .number) pressingOf program (3, netT, three 20 10 30) (entry 2 answers)
+
+pub two-sides-refusing : (program : ℕ × Lent × Table → Left Sided Table) → Meets program sidingOf → Refuses (λ r. r .answer .number) program → ⊥
+two-sides-refusing program = refusing-unfit (λ r. r .answer .number) sidingOf program (2, netTwo, three 0 0 0) (entry 3 answers)
+
+pub plan-refusing : (program : ℕ × Lent × Table × Table × ℕ × ℕ → Left Planned (Table × Table)) → Meets program planningOf → Refuses (λ r. r .answer .number) program → ⊥
+plan-refusing program = refusing-unfit (λ r. r .answer .number) planningOf program (3, netT, three 0 0 0, three 0 0 0, 1, 0) (entry 4 answers)
+
+pub improve-refusing : (program : ℕ × Lent × Table × Table × ℕ × ℕ → Left Planned (Table × Table)) → Meets program improvingOf → Refuses (λ r. r .answer .number) program → ⊥
+improve-refusing program = refusing-unfit (λ r. r .answer .number) improvingOf program (3, netT, three 2 1 0, three 0 0 0, 1, 1) (entry 5 answers)
+
+pub floor-refusing : (program : ℕ × Lent × Table → Floored) → Meets program flooringOf → Refuses (λ r. r .number) program → ⊥
+floor-refusing program = refusing-unfit (λ r. r .number) flooringOf program (3, netT, 0 ∷ 1 ∷ 2 ∷ []) (entry 6 answers)
+
+pub read-refusing : (program : Table × Table × Lent × Table → Left SheetRead (Table × Lent × Table)) → Meets program readingOf → Refuses (λ r. r .answer .number) program → ⊥
+read-refusing program = refusing-unfit (λ r. r .answer .number) readingOf program (onePath, cleared 1024 0, clearedNetwork, cleared 128 0) (entry 7 answers)
+
+pub write-refusing : (program : ℕ × Table × Lent × Table × Table → Left SheetWritten Table) → Meets program writingOf → Refuses (λ r. r .answer .number) program → ⊥
+write-refusing program = refusing-unfit (λ r. r .answer .number) writingOf program (1, labelA, netOne, three 0 0 0, cleared 100 0) (entry 8 answers)
+
+-- the better of two refuses everything by handing back empty parts: it does not for these two orders of T
+pub better-refusing : ((n : ℕ) (lent : Lent) (first second : Table) → comparing n lent first second ≡ 0) → ⊥
+better-refusing h = omega (arith, h 3 netT (three 0 1 2) (three 1 0 2), betterT)
+
+-- (2) A packing with one constant answer: one highest slot for all, or one table of starts for all
+pub constant-highest-unfit : (program : ℕ × Lent × Table × Table → Left Packed Table) → Meets program packingOf
+    → (constant : ℕ) → ((g : ℕ × Lent × Table × Table) → program g .answer .highest ≡ constant) → ⊥
+constant-highest-unfit program meets constant same =
+    omega (arith, high (three 0 1 2), high (three 1 0 2), entry 0 differs, entry 1 differs)
+  where
+    high : (order : Table) → packing 3 netT order (three 0 0 0) .answer .highest ≡ constant
+    high order = sym (ap (λ (r : Left Packed Table). r .answer .highest) (meets (3, netT, order, three 0 0 0))) ∙ same (3, netT, order, three 0 0 0)
+
+pub constant-starts-unfit : (program : ℕ × Lent × Table × Table → Left Packed Table) → Meets program packingOf
+    → (constant : Table) → ((g : ℕ × Lent × Table × Table) → program g .tables ≡ constant) → ⊥
+constant-starts-unfit program meets constant same =
+    omega (arith, ap (λ (t : Table). at t 0) (start (three 0 1 2) ∙ sym (start (three 1 0 2))), entry 2 differs, entry 3 differs)
+  where
+    start : (order : Table) → packing 3 netT order (three 0 0 0) .tables ≡ constant
+    start order = sym (ap (λ (r : Left Packed Table). r .tables) (meets (3, netT, order, three 0 0 0))) ∙ same (3, netT, order, three 0 0 0)
+
+-- (3) A pressing that hands its plan back untouched
+pub untouched-unfit : (program : ℕ × Lent × Table → Left Packed Table) → Meets program pressingOf
+    → ((n : ℕ) (lent : Lent) (starts : Table) → program (n, lent, starts) .tables ≡ starts) → ⊥
+untouched-unfit program meets untouched =
+    omega (arith, ap (λ (t : Table). at t 0) back, entry 4 differs, first-start)
+  where
+    back : pressing 3 netT (three 20 10 30) .tables ≡ three 20 10 30
+    back = sym (ap (λ (r : Left Packed Table). r .tables) (meets (3, netT, three 20 10 30))) ∙ untouched 3 netT (three 20 10 30)
+
+    first-start : at (three 20 10 30) 0 ≡ 20
+    first-start = unfold three in refl
+
+-- (4) An improver that works in round one and idles after: more rounds leave what one round left
+pub idle-unfit : (program : ℕ × Lent × Table × Table × ℕ × ℕ → Left Planned (Table × Table)) → Meets program improvingOf
+    → ((n : ℕ) (lent : Lent) (order starts : Table) (seed more : ℕ) → program (n, lent, order, starts, seed, suc more) ≡ program (n, lent, order, starts, seed, 1)) → ⊥
+idle-unfit program meets idles =
+    omega (arith, ap (λ (r : Left Planned (Table × Table)). r .answer .highest) (sym (meets (given 2)) ∙ idles 3 netT (three 2 1 0) (three 0 0 0) 1 1 ∙ meets (given 1)), entry 5 differs, entry 6 differs)
+  where
+    given : ℕ → ℕ × Lent × Table × Table × ℕ × ℕ
+    given rounds = (3, netT, three 2 1 0, three 0 0 0, 1, rounds)
+
+-- (5) An invented number of kept swaps: it has to be the number of those rounds after which the program's own highest slot is lower than before
+pub invented-unfit : (program : ℕ × Lent × Table × Table × ℕ × ℕ → Left Planned (Table × Table)) → Meets program improvingOf
+    → (n : ℕ) (lent : Lent) (order starts : Table) (seed rounds : ℕ) → program (n, lent, order, starts, seed, rounds) .answer .number ≡ 0
+    → program (n, lent, order, starts, seed, rounds) .answer .kept
+    ≢ sum (λ i. cond (ltb (program (n, lent, order, starts, seed, suc i) .answer .highest) (program (n, lent, order, starts, seed, i) .answer .highest)) 1 0) rounds
+    → ⊥
+invented-unfit program meets n lent order starts seed rounds done invented = invented (kept-is ∙ sums rounds (omega arith))
+  where
+    accepted : improving n lent order starts seed rounds .answer .number ≡ 0
+    accepted = sym (ap (λ (r : Left Planned (Table × Table)). r .answer .number) (meets (n, lent, order, starts, seed, rounds))) ∙ done
+
+    packable : Packable n lent order starts × (rounds ≤ 10000)
+    packable = improving-packable n lent order starts seed rounds accepted
+
+    -- after i rounds the program's highest slot is that of the defined rounds
+    after : (i : ℕ) → i ≤ rounds → program (n, lent, order, starts, seed, i) .answer .highest ≡ runAfter n lent order starts seed i .highest
+    after i l =
+        ap (λ (r : Left Planned (Table × Table)). r .answer .highest) (meets (n, lent, order, starts, seed, i))
+        ∙ improving-highest n lent order starts seed i (packable-improves n lent order starts seed i (packable .0) (omega (arith, packable .1)))
+
+    kept-is : program (n, lent, order, starts, seed, rounds) .answer .kept
+        ≡ sum (λ i. cond (ltb (runAfter n lent order starts seed (suc i) .highest) (runAfter n lent order starts seed i .highest)) 1 0) rounds
+    kept-is =
+        ap (λ (r : Left Planned (Table × Table)). r .answer .kept) (meets (n, lent, order, starts, seed, rounds))
+        ∙ improving-kept n lent order starts seed rounds accepted ∙ run-kept n lent order starts seed (packable .0) rounds
+
+    sums : (k : ℕ) → k ≤ rounds
+        → sum (λ i. cond (ltb (runAfter n lent order starts seed (suc i) .highest) (runAfter n lent order starts seed i .highest)) 1 0) k
+        ≡ sum (λ i. cond (ltb (program (n, lent, order, starts, seed, suc i) .answer .highest) (program (n, lent, order, starts, seed, i) .answer .highest)) 1 0) k
+    sums k l = sum-same _ _ k (λ i g. rw (after (suc i) (omega arith), after i (omega arith)))

@@ -1,1 +1,0 @@
-// The theorems about the rules stand in specs/. No code.

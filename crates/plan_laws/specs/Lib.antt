@@ -1,0 +1,23 @@
+-- orders and packing, by any rule and by the lowest start
+pub mod Arranged
+pub mod Pack
+pub mod Lowest
+-- plans
+pub mod Good
+pub mod Plans
+pub mod Heights
+pub mod Bound
+pub mod Judge
+pub mod Fits
+-- what an answer of 0 means
+pub mod Answers
+-- the loops of the code
+pub mod Clash
+pub mod Engine
+pub mod Arranging
+pub mod Greedy
+pub mod Growing
+pub mod Improve
+pub mod Runs
+pub mod Sided
+pub mod Spreading

@@ -1,0 +1,5 @@
+pub mod Texts
+pub mod Rows
+pub mod Lines
+pub mod Writes
+pub mod FirstBytes

@@ -1,0 +1,9 @@
+pub mod Count
+pub mod Scans
+pub mod Tables
+pub mod Updates
+pub mod Orders
+pub mod Marks
+pub mod Faults
+pub mod Limits
+pub mod Chains

@@ -1,0 +1,30 @@
+-- A loop that runs over a table and replaces each cell by f of its index and of what it held. Assumes nothing.
+use Prim.Native.Nat.{ℕ, _+_, _≤_, _<_}
+use mathlib.Core.Path.{_≡_, refl, ap, _∙_}
+use mathlib.Core.List.{List}
+use native.Mathlib.Omega.{arith}
+use lib.ListN.{length, set, length-set}
+use borrow.Author.Count.{below-none, below-more}
+use Rattle.rules.specs.Tables.{at}
+use Rattle.table_laws.specs.Tables.{at-same, at-other}
+
+-- xs is xs₀ with the cells below j replaced
+pub record Updated (f : ℕ → ℕ → ℕ) (xs₀ xs : List ℕ) (j : ℕ) : Type 0 where
+  pub long : length xs ≡ length xs₀
+  pub done : (k : ℕ) → k < j → at xs k ≡ f k (at xs₀ k)
+  pub left : (k : ℕ) → j ≤ k → at xs k ≡ at xs₀ k
+
+pub update-none : (f : ℕ → ℕ → ℕ) (xs : List ℕ) → Updated f xs xs 0
+update-none f xs = record { long = refl; done = below-none _; left = λ k l. refl }
+
+pub update-more : (f : ℕ → ℕ → ℕ) (xs₀ xs : List ℕ) (j v : ℕ) → Updated f xs₀ xs j → j < length xs₀ → v ≡ f j (at xs j) → Updated f xs₀ (set xs j v) (j + 1)
+update-more f xs₀ xs j v u l e = record {
+  long = length-set xs j v ∙ u .long;
+  done = below-more (λ k. at (set xs j v) k ≡ f k (at xs₀ k)) j
+      (λ k m. at-other xs j v k (λ q. omega arith) ∙ u .done k m)
+      (at-same xs j v (omega (arith, u .long)) ∙ e ∙ ap (f j) (u .left j (omega arith)));
+  left = λ k m. at-other xs j v k (λ q. omega arith) ∙ u .left k (omega arith);
+}
+
+pub update-all : (f : ℕ → ℕ → ℕ) (xs₀ xs : List ℕ) (j n : ℕ) → Updated f xs₀ xs j → j ≡ n → Updated f xs₀ xs n
+update-all f xs₀ xs j n u e = rw e at u
