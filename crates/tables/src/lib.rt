@@ -1,15 +1,17 @@
-// The tests of lent tables, each once, for every call. Document 01, "Numbers returned": each scan goes from the lowest index, by i then j,
-// and cells of index n or more are never tested. A square is tested by rows, with no branch on a cell so that the compiler makes vector
-// code of it; the first cell at fault is looked for only in a row that has one.
+// An inner crate: the tests of lent tables, each once, for every call. Each scan goes from the lowest index, by i then j, and cells of index n
+// or more are never tested. A square is tested by rows, with no branch on a cell so that the compiler makes vector code of it; the
+// first cell at fault is looked for only in a row that has one.
 use rules::Fault;
 ghost use mathlib.Core.Path.{_≡_};
 ghost use mathlib.Core.Bool.{false, not, _||_, _&&_};
 ghost use Prim.Native.Nat.{ℕ, _+_, _*_, _≤_, _<_, max};
 ghost use lib.Dec.{ltb, eqb};
 ghost use lib.ListN.{length};
-ghost use Rattle.rules.specs.Tables.{at, cell};
+ghost use mathlib.Core.List.{List};
+ghost use Rattle.rules.specs.Tables.{at, cell, lend};
 ghost use Rattle.rules.specs.Scan.{first};
-ghost use Rattle.rules.specs.Numbers.{fault, noFault, refuseIf, scan, square, outside, countFault, networkSizes, badWidth, badGuard, badMirror, orderFault, startFault, networkFault};
+ghost use Rattle.rules.specs.Numbers.{fault, noFault, refuseIf, scan, square, outside, countFault, networkSizes, planSizes, badGuard, badMirror, orderFault, startFault, networkFault, lentFault};
+ghost use Rattle.tables.specs.Cells.{badCell};
 
 pub fn refused(number: usize, place: usize) -> Fault
     ensures { λ r. ⌜ r ≡ fault number place ⌝ }
@@ -35,10 +37,10 @@ pub fn count_fault(n: usize) -> Fault
     ensures { λ r. ⌜ r ≡ countFault n ⌝ }
 {
     if n < 1 {
-        return refused(1, 0);
+        return refused(rules::REFUSED_COUNT, 0);
     }
     if rules::PATHS < n {
-        return refused(1, 0);
+        return refused(rules::REFUSED_COUNT, 0);
     }
     accepted()
 }
@@ -48,14 +50,25 @@ pub fn size_fault(cells: usize, size: usize) -> Fault
     ensures { λ r. ⌜ r ≡ refuseIf (not (eqb cells size)) 2 0 ⌝ }
 {
     if cells != size {
-        return refused(2, 0);
+        return refused(rules::REFUSED_SIZE, 0);
     }
     accepted()
 }
 
-// 2, of the tables that every call is lent.
+// 2, of an order and a table of starts of so many cells.
+pub fn plan_sizes(order: usize, starts: usize) -> Fault
+    ensures { λ r. ⌜ ((o s : List ℕ) → length o ≡ order → length s ≡ starts → r ≡ planSizes o s) ⌝ }
+{
+    let f = size_fault(order, rules::PATHS);
+    if f.number != 0 {
+        return f;
+    }
+    size_fault(starts, rules::PATHS)
+}
+
+// 2, of the tables of a network.
 pub fn network_sizes(widths: &[u16], guards: &[u8]) -> Fault
-    ensures { λ r. ⌜ r ≡ networkSizes (now (widths .entry)) (now (guards .entry)) ⌝ }
+    ensures { λ r. ⌜ r ≡ networkSizes (lend (now (widths .entry)) (now (guards .entry))) ⌝ }
 {
     let f = size_fault(widths.len(), rules::PATHS);
     if f.number != 0 {
@@ -73,16 +86,16 @@ fn is_outside(least: u16, most: u16, x: u16) -> bool
     most < x
 }
 
-// 3: width not 1 to 64.
-pub fn width_fault(n: usize, widths: &[u16]) -> Fault
-    requires { ⌜ (n ≤ 128) × (length (now widths) ≡ 128) ⌝ }
-    ensures { λ r. ⌜ r ≡ scan 3 (badWidth (now (widths .entry))) n ⌝ }
+// The first of n numbers of a table that is not 1 to `most`, refused by the number given: 3 for a width, 7 for a start.
+pub fn range_fault(n: usize, table: &[u16], most: u16, number: usize) -> Fault
+    requires { ⌜ (n ≤ 128) × (length (now table) ≡ 128) ⌝ }
+    ensures { λ r. ⌜ r ≡ scan number (λ k. outside 1 most (at (now (table .entry)) k)) n ⌝ }
 {
     let mut k: usize = 0;
     while k < n {
-        let w = widths[k];
-        if is_outside(1, rules::WIDTH_MOST, w) {
-            return refused(3, k);
+        let x = table[k];
+        if is_outside(1, most, x) {
+            return refused(number, k);
         }
         k += 1;
     }
@@ -94,15 +107,7 @@ pub fn start_fault(n: usize, starts: &[u16]) -> Fault
     requires { ⌜ (n ≤ 128) × (length (now starts) ≡ 128) ⌝ }
     ensures { λ r. ⌜ r ≡ startFault n (now (starts .entry)) ⌝ }
 {
-    let mut k: usize = 0;
-    while k < n {
-        let s = starts[k];
-        if is_outside(1, rules::START_MOST, s) {
-            return refused(7, k);
-        }
-        k += 1;
-    }
-    accepted()
+    range_fault(n, starts, rules::START_MOST, rules::REFUSED_START)
 }
 
 // 4, of one cell: "guard cell not 0 to 32 or 255, diagonal not 255".
@@ -132,6 +137,16 @@ fn guard_search(n: usize, i: usize, guards: &[u8]) -> usize
         j += 1;
     }
     n
+}
+
+// Whether one of two holds; both are known, so that no branch is needed.
+pub fn either(a: bool, b: bool) -> bool
+    ensures { λ r. ⌜ r ≡ (a || b) ⌝ }
+{
+    if a {
+        return true;
+    }
+    b
 }
 
 fn larger(a: u8, b: u8) -> u8
@@ -176,22 +191,6 @@ fn guard_row(n: usize, i: usize, guards: &[u8]) -> usize
         }
     }
     guard_search(n, i, guards)
-}
-
-// 4, over the whole square.
-pub fn guard_fault(n: usize, guards: &[u8]) -> Fault
-    requires { ⌜ (n ≤ 128) × (length (now guards) ≡ 16384) ⌝ }
-    ensures { λ r. ⌜ r ≡ square 4 (badGuard (now (guards .entry))) n ⌝ }
-{
-    let mut i: usize = 0;
-    while i < n {
-        let j = guard_row(n, i, guards);
-        if j < n {
-            return refused(4, 128 * i + j);
-        }
-        i += 1;
-    }
-    accepted()
 }
 
 // The first cell of row i past the diagonal that is unequal to its mirror, or n.
@@ -245,16 +244,27 @@ fn mirror_row(n: usize, i: usize, guards: &[u8]) -> usize
     mirror_search(n, i, guards)
 }
 
-// 5: the place is that of the cell with i<j, never its mirror's.
-pub fn mirror_fault(n: usize, guards: &[u8]) -> Fault
+// The first cell of row i that is at fault, by 5 where `mirror`, else by 4; n if there is none.
+fn row_fault(n: usize, i: usize, guards: &[u8], mirror: bool) -> usize
+    requires { ⌜ (n ≤ 128) × ((i < n) × (length (now guards) ≡ 16384)) ⌝ }
+    ensures { λ r. ⌜ r ≡ first (badCell mirror (now (guards .entry)) i) n ⌝ }
+{
+    if mirror {
+        return mirror_row(n, i, guards);
+    }
+    guard_row(n, i, guards)
+}
+
+// 4 or 5 over the whole square, refused by the number given. The place of 5 is that of the cell with i<j, never its mirror's.
+fn square_fault(n: usize, guards: &[u8], mirror: bool, number: usize) -> Fault
     requires { ⌜ (n ≤ 128) × (length (now guards) ≡ 16384) ⌝ }
-    ensures { λ r. ⌜ r ≡ square 5 (badMirror (now (guards .entry))) n ⌝ }
+    ensures { λ r. ⌜ r ≡ square number (badCell mirror (now (guards .entry))) n ⌝ }
 {
     let mut i: usize = 0;
     while i < n {
-        let j = mirror_row(n, i, guards);
+        let j = row_fault(n, i, guards, mirror);
         if j < n {
-            return refused(5, 128 * i + j);
+            return refused(number, 128 * i + j);
         }
         i += 1;
     }
@@ -271,10 +281,10 @@ pub fn order_fault(n: usize, order: &[u8]) -> Fault
     while p < n {
         let k = order[p] as usize;
         if n <= k {
-            return refused(6, p);
+            return refused(rules::REFUSED_ENTRY, p);
         }
         if seen[k] != 0 {
-            return refused(6, p);
+            return refused(rules::REFUSED_ENTRY, p);
         }
         seen[k] = 1;
         p += 1;
@@ -285,19 +295,33 @@ pub fn order_fault(n: usize, order: &[u8]) -> Fault
 // 1, 3, 4, 5: a network, in this order; 4 over the whole square before 5.
 pub fn network_fault(n: usize, widths: &[u16], guards: &[u8]) -> Fault
     requires { ⌜ (length (now widths) ≡ 128) × (length (now guards) ≡ 16384) ⌝ }
-    ensures { λ r. ⌜ r ≡ networkFault n (now (widths .entry)) (now (guards .entry)) ⌝ }
+    ensures { λ r. ⌜ r ≡ networkFault n (lend (now (widths .entry)) (now (guards .entry))) ⌝ }
 {
     let c = count_fault(n);
     if c.number != 0 {
         return c;
     }
-    let w = width_fault(n, widths);
+    let w = range_fault(n, widths, rules::WIDTH_MOST, rules::REFUSED_WIDTH);
     if w.number != 0 {
         return w;
     }
-    let g = guard_fault(n, guards);
+    let g = square_fault(n, guards, false, rules::REFUSED_GUARD);
     if g.number != 0 {
         return g;
     }
-    mirror_fault(n, guards)
+    square_fault(n, guards, true, rules::REFUSED_MIRROR)
+}
+
+// 2, 1, 3, 4, 5: the tests that every call begins with. `sizes` is 2 of the tables that it is lent beside the network.
+pub fn lent_fault(n: usize, widths: &[u16], guards: &[u8], sizes: Fault) -> Fault
+    ensures { λ r. ⌜ r ≡ lentFault n (lend (now (widths .entry)) (now (guards .entry))) sizes ⌝ }
+{
+    let f = network_sizes(widths, guards);
+    if f.number != 0 {
+        return f;
+    }
+    if sizes.number != 0 {
+        return sizes;
+    }
+    network_fault(n, widths, guards)
 }
