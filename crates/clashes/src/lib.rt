@@ -1,11 +1,10 @@
 // An inner crate: the test 8, of a plan whose other tests have found no fault.
 use rules::Fault;
 ghost use mathlib.Core.Path.{_≡_};
-ghost use mathlib.Core.Bool.{false};
 ghost use Prim.Native.Nat.{ℕ, _≤_, _<_};
 ghost use Rattle.rules.specs.Tables.{at, lend};
 ghost use Rattle.rules.specs.Limits.{Network, Starts};
-ghost use Rattle.rules.specs.Scan.{first};
+ghost use Rattle.rules.specs.Scan.{first, found};
 ghost use Rattle.rules.specs.Plan.{netOf, tooClose};
 ghost use Rattle.rules.specs.Numbers.{clashFault};
 ghost use Rattle.plan_laws.specs.Clash.{pairClose};
@@ -47,7 +46,7 @@ fn close_search(n: usize, i: usize, widths: &[u16], guards: &[u8], starts: &[u16
 // Whether some path past i is too close to i; with no branch on a pair.
 fn row_close(n: usize, i: usize, widths: &[u16], guards: &[u8], starts: &[u16]) -> bool
     requires { ⌜ (i < n) × (Network n (lend (now widths) (now guards)) × Starts n (now starts)) ⌝ }
-    ensures { λ r. ⌜ (r ≡ false → (j : ℕ) → j < n → tooClose (netOf (lend (now (widths .entry)) (now (guards .entry)))) (at (now (starts .entry))) i j ≡ false) ⌝ }
+    ensures { λ r. ⌜ r ≡ found (tooClose (netOf (lend (now (widths .entry)) (now (guards .entry)))) (at (now (starts .entry))) i) n ⌝ }
 {
     let s = starts[i];
     let w = widths[i];
