@@ -25,8 +25,8 @@
  *     with NESBRUNKA_REFUSED_LIST.
  *   - A table that a call may write must not overlap any other that it is lent. Tables that are
  *     only read may be the same.
- *   - The library keeps no state, allocates nothing and calls nothing; calls on different tables
- *     may run at the same time.
+ *   - The library keeps no state and allocates nothing, and needs nothing but memset. Calls on
+ *     different tables may run at the same time.
  *
  * Answers. `number` is NESBRUNKA_DONE or the number of a refusal, `place` says where. A refusal
  * leaves every lent table unchanged, except that nesbrunka_read's refusals other than
@@ -58,14 +58,14 @@ enum {
 
 /* Limits of what a cell may hold and a call may be given. */
 enum {
-    NESBRUNKA_WIDTH_MOST = 64,    /* slots of the widest path */
-    NESBRUNKA_GUARD_MOST = 32,    /* slots of the largest guard */
-    NESBRUNKA_NO_CONFLICT = 255,  /* the guard cell of two paths that are not in conflict */
-    NESBRUNKA_START_MOST = 16384, /* the highest start */
+    NESBRUNKA_WIDTH_MOST = 64,     /* slots of the widest path */
+    NESBRUNKA_GUARD_MOST = 32,     /* slots of the largest guard */
+    NESBRUNKA_NO_CONFLICT = 255,   /* the guard cell of two paths that are not in conflict */
+    NESBRUNKA_START_MOST = 16384,  /* the highest start */
     NESBRUNKA_ROUNDS_MOST = 10000, /* rounds of planning and improving */
-    NESBRUNKA_LIST_MOST = 8,      /* paths in a floor's list */
-    NESBRUNKA_PAIRS_MOST = 2000,  /* conflicting pairs in a sheet */
-    NESBRUNKA_SHEET_MOST = 45489  /* bytes of the longest sheet */
+    NESBRUNKA_LIST_MOST = 8,       /* paths in a floor's list */
+    NESBRUNKA_PAIRS_MOST = 2000,   /* conflicting pairs in a sheet */
+    NESBRUNKA_SHEET_MOST = 45489   /* bytes of the longest sheet */
 };
 
 /* Numbers returned. In each comment: when it is given, and what the place is. */
