@@ -106,6 +106,7 @@ pub const REFUSED_ROOM: usize = 16;
 /// Judges a plan: of each conflicting pair one starts above the other's end plus their guard.
 ///
 /// Tests in this order: 2, 1, 3, 4, 5, 7, 8.
+#[inline]
 pub fn judge(n: usize, widths: &[u16], guards: &[u8], starts: &[u16]) -> Judged {
     let (w, g, s) = (widths.as_ptr(), guards.as_ptr(), starts.as_ptr());
     // SAFETY: each pointer and length are those of one slice, and nothing is written.
@@ -116,6 +117,7 @@ pub fn judge(n: usize, widths: &[u16], guards: &[u8], starts: &[u16]) -> Judged 
 /// end + guard + 1 over the conflicting paths earlier in it.
 ///
 /// Tests in this order: 2, 1, 3, 4, 5, 6.
+#[inline]
 pub fn pack(n: usize, widths: &[u16], guards: &[u8], order: &[u8], starts: &mut [u16]) -> Packed {
     let (w, g) = (widths.as_ptr(), guards.as_ptr());
     let (o, s) = (order.as_ptr(), starts.as_mut_ptr());
@@ -129,6 +131,7 @@ pub fn pack(n: usize, widths: &[u16], guards: &[u8], order: &[u8], starts: &mut 
 /// starts.
 ///
 /// Tests in this order: 2, 1, 3, 4, 5, 7, 8.
+#[inline]
 pub fn press(n: usize, widths: &[u16], guards: &[u8], starts: &mut [u16]) -> Packed {
     let (w, g, s) = (widths.as_ptr(), guards.as_ptr(), starts.as_mut_ptr());
     // SAFETY: each pointer and length are those of one slice; the one written is borrowed alone.
@@ -139,6 +142,7 @@ pub fn press(n: usize, widths: &[u16], guards: &[u8], starts: &mut [u16]) -> Pac
 /// the lower highest slot, of the first where they are equal.
 ///
 /// Empty exactly when a packing of either would be refused.
+#[inline]
 pub fn better<'a>(
     n: usize, widths: &[u16], guards: &[u8], first: &'a [u8], second: &'a [u8],
 ) -> &'a [u8] {
@@ -159,6 +163,7 @@ pub fn better<'a>(
 /// side by number. Answers the size of the low side.
 ///
 /// Tests in this order: 2, 1, 3, 4, 5, 9.
+#[inline]
 pub fn two_sides(n: usize, widths: &[u16], guards: &[u8], order: &mut [u8]) -> Sided {
     let (w, g, o) = (widths.as_ptr(), guards.as_ptr(), order.as_mut_ptr());
     // SAFETY: each pointer and length are those of one slice; the one written is borrowed alone.
@@ -170,6 +175,7 @@ pub fn two_sides(n: usize, widths: &[u16], guards: &[u8], order: &mut [u8]) -> S
 /// not tested.
 ///
 /// Tests in this order: 2, 1, 3, 4, 5, 10.
+#[inline]
 pub fn plan(
     n: usize, widths: &[u16], guards: &[u8], order: &mut [u8], starts: &mut [u16], seed: u32,
     rounds: usize,
@@ -199,6 +205,7 @@ pub fn plan(
 /// the first n starts.
 ///
 /// Tests in this order: 2, 1, 3, 4, 5, 6, 10.
+#[inline]
 pub fn improve(
     n: usize, widths: &[u16], guards: &[u8], order: &mut [u8], starts: &mut [u16], seed: u32,
     rounds: usize,
@@ -227,6 +234,7 @@ pub fn improve(
 /// highest slot is below it.
 ///
 /// Tests in this order: 2, 1, 3, 4, 5, 15.
+#[inline]
 pub fn floor(n: usize, widths: &[u16], guards: &[u8], list: &[u8]) -> Floored {
     let (w, g, l) = (widths.as_ptr(), guards.as_ptr(), list.as_ptr());
     // SAFETY: each pointer and length are those of one slice, and nothing is written.
@@ -237,6 +245,7 @@ pub fn floor(n: usize, widths: &[u16], guards: &[u8], list: &[u8]) -> Floored {
 /// n widths and starts 0, guards 255, labels 0. A sheet without a plan leaves all starts 0.
 ///
 /// Tests 2 first, then gives the first line at fault.
+#[inline]
 pub fn read(
     text: &[u8], labels: &mut [u8], widths: &mut [u16], guards: &mut [u8], starts: &mut [u16],
 ) -> SheetRead {
@@ -263,6 +272,7 @@ pub fn read(
 /// zero.
 ///
 /// Tests in this order: 2, 1 for n, 3, 4, 5, 11, 12, 1 for pairs, 7, 16.
+#[inline]
 pub fn write(
     n: usize, labels: &[u8], widths: &[u16], guards: &[u8], starts: &[u16], text: &mut [u8],
 ) -> SheetWritten {
