@@ -13,7 +13,8 @@ use nesbrunka::{CELLS, PAIRS_MOST, PATHS, SHEET_MOST};
 use networks::{longest, pairs, Network, Random, PERCENTS, SIZES};
 use rules::{look_back, push, Order, Packer, Starts};
 use std::hint::black_box;
-use turns::{done, median, ratios, seconds};
+use std::time::Instant;
+use turns::{done, median, ratios};
 
 extern "C" {
     /// The library's packing with no tests; for this table alone.
@@ -116,7 +117,7 @@ fn improving(net: &Network) -> [f64; 2] {
     let called = &mut || done(library::improve(net, order, 10000));
     let plain = &mut || done(rules::improve(look_back, net, order, 10000));
     let same = &mut || done(rules::improve(push, net, order, 10000));
-    let found = ratios(9, [called, plain, same]);
+    let found = ratios(15, [called, plain, same]);
     [found[1], found[2]]
 }
 
@@ -166,13 +167,10 @@ fn program(n: usize, pairs: usize, random: &mut Random) -> f64 {
 
 /// One run of a program: what it printed, and its seconds, process and all.
 fn run(program: &str) -> (Vec<u8>, f64) {
-    let mut printed = Vec::new();
-    let time = seconds(&mut || {
-        let sheet = std::fs::File::open("target/bench/input.sheet").expect("the sheet");
-        let out = std::process::Command::new(program).stdin(sheet).output().expect("the program");
-        printed = out.stdout;
-    });
-    (printed, time)
+    let sheet = std::fs::File::open("target/bench/input.sheet").expect("the sheet");
+    let began = Instant::now();
+    let out = std::process::Command::new(program).stdin(sheet).output().expect("the program");
+    (out.stdout, began.elapsed().as_secs_f64())
 }
 
 /// A goal that was set for a figure.
