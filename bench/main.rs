@@ -203,7 +203,6 @@ fn main() {
     let [reading, writing] = sheets(random);
     println!("\nThe longest sheet: reading {reading:.2}, writing {writing:.2} of plain Rust.\n");
     let half = found[2][1];
-    goal("judge, 128 paths, 50 %", 1.0, half[0]);
     goal("pack, 128 paths, 50 %", 0.25, half[1]);
     goal("pack without its tests, 128 paths, 50 %", 1.2, half[2]);
     goal("improve by looking back, 128 paths, 50 %", 0.1, half[4]);
