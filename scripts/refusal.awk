@@ -34,8 +34,8 @@ END {
 
 # Puts a byte down, each line in its visible form.
 function take(b) {
-    if (total < 4) first[total] = b
     total++
+    if (total <= 4) first[total] = b
     if (b == 10) { rows++; return }
     bytes[rows + 1]++
     if (length(text[rows + 1]) < HELD) text[rows + 1] = text[rows + 1] shape[b]
@@ -44,6 +44,9 @@ function take(b) {
 # --- what stands in a line; each of these leaves the line's fields in `field`
 
 function fields(s) { return split(s, field, / /) }
+
+# Labels are compared byte by byte; awk alone would take 0417 and 417 for equal numbers.
+function same(a, b) { return a "" == b "" }
 
 function is_label(s) { return s ~ /^[-0-9A-Z]+$/ && length(s) <= 8 }
 
@@ -77,13 +80,16 @@ function is_right(s) {
 
 function is_blank(s) { return s ~ /^ *$/ }
 
+# Whether the line may go on after the bytes that are given.
+function is_cut() { return line > whole && total >= KEPT }
+
 # --- what is shown
 
 function shown(s,    n) {
-    n = bytes[line] + 0
+    n = (is_cut() ? "over " : "") bytes[line] + 0 " bytes"
     sub(/^\\xef\\xbb\\xbf|^\\xff\\xfe|^\\xfe\\xff/, "<byte order mark>", s)
     if (s ~ / $/) s = substr(s, 1, length(s) - 1) "<space>"
-    return length(s) <= 60 ? s : clipped(s, 50) ".. (cut; " (n + total - total >= KEPT ? "over " : "") n " bytes)"
+    return length(s) <= 60 ? s : clipped(s, 50) ".. (cut; " n ")"
 }
 
 # The first so many characters, and no part of a byte's name.
@@ -122,14 +128,14 @@ function wrong_count() {
 }
 
 function high_guard(g) {
-    return "the guard is " g ", and at most 32" (g == 255 ? "; a pair with no conflict has no line" : "")
+    return "the guard is " g ", and must be 0 to 32" (g == 255 ? "; a pair with no conflict has no line" : "")
 }
 
 # The path line, before a line, that has a label; 0 where there is none.
 function path_line(label, before,    l) {
     for (l = 2; l < before && l <= paths + 1; l++) {
         fields(text[l])
-        if (field[1] == label) return l
+        if (same(field[1], label)) return l
     }
     return 0
 }
@@ -142,14 +148,14 @@ function label_twice(label,    l) {
 function bad_pair(a, b) {
     if (!path_line(a, line)) return "no path has the label " a likely(a)
     if (!path_line(b, line)) return "no path has the label " b likely(b)
-    return a == b ? "the path " a " is paired with itself" : ""
+    return same(a, b) ? "the path " a " is paired with itself" : ""
 }
 
 # The label that is the same but for zeros at its beginning.
 function likely(label,    l) {
     for (l = 2; l <= paths + 1; l++) {
         fields(text[l])
-        if (without_zeros(field[1]) == without_zeros(label))
+        if (same(without_zeros(field[1]), without_zeros(label)))
             return "; is " field[1] " meant (line " l ")? Labels are compared byte by byte"
     }
     return ""
@@ -166,8 +172,8 @@ function other_label(label,    l) {
 function pair_twice(a, b,    l) {
     for (l = paths + 3; l < line; l++) {
         fields(text[l])
-        if (field[1] == a && field[2] == b) return "the pair is given twice, first at line " l
-        if (field[1] == b && field[2] == a) return "the pair is given twice, first at line " l ", the other way round"
+        if (same(field[1], a) && same(field[2], b)) return "the pair is given twice, first at line " l
+        if (same(field[1], b) && same(field[2], a)) return "the pair is given twice, first at line " l ", the other way round"
     }
     return ""
 }
@@ -179,7 +185,7 @@ function wrong_form(    s, why) {
     if (line > rows) return ends_early()
     s = text[line]
     why = wrong_file(s)
-    if (why == "" && line > whole && is_right(s) && total < KEPT) why = "the line feed at its end is missing"
+    if (why == "" && line > whole && is_right(s) && !is_cut()) why = "the line feed at its end is missing"
     if (why == "") why = wrong_place(s)
     if (why == "") why = wrong_bytes(s)
     if (why == "" && kind in word) why = wrong_count_line(s, word[kind])
@@ -206,10 +212,11 @@ function wrong_file(s,    l) {
     return "the sheet has Windows line ends (carriage returns); save it with line feeds alone"
 }
 
+# Two bytes a character: the byte order mark of that, or every other byte 0.
 function is_wide() {
-    if (first[0] == 255 && first[1] == 254 || first[0] == 254 && first[1] == 255) return 1
+    if (first[1] == 255 && first[2] == 254 || first[1] == 254 && first[2] == 255) return 1
     if (total < 4) return 0
-    return first[0] && !first[1] && first[2] && !first[3] || !first[0] && first[1] && !first[2] && first[3]
+    return first[1] && !first[2] && first[3] && !first[4] || !first[1] && first[2] && !first[3] && first[4]
 }
 
 # A line of another section, or one too many. `field` may be changed.
