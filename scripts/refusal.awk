@@ -60,6 +60,8 @@ function is_guard(s) {
     return fields(s) == 3 && is_label(field[1]) && is_label(field[2]) && is_number(field[3])
 }
 
+function begins(s, w) { fields(s); return same(field[1], w) }
+
 # What the two counts say that line l is; nothing where they do not tell.
 function kind_of(l) {
     if (l == 1) return "paths N"
@@ -194,12 +196,14 @@ function wrong_form(    s, why) {
 }
 
 function ends_early() {
-    if (kind == "path") return "the sheet ends after " line - 2 " of its " many(paths, "path line")
     if (kind == "guards G") return "the sheet ends after its paths; " form[kind]
-    if (kind == "guard") return "the sheet ends after " line - paths - 3 " of its " many(guards, "guard line")
-    if (kind == "start") return "the sheet ends after " line - paths - guards - 4 " of its " many(paths, "starts line")
+    if (kind == "path") return says("path", paths) "ends after " many(line - 2, "path line") "; " form[kind]
+    if (kind == "guard") return says("guard", guards) "ends after " many(line - paths - 3, "guard line") "; " form[kind]
+    if (kind == "start") return says("start", paths) "ends after " many(line - paths - guards - 4, "starts line") "; " form[kind]
     return ""
 }
+
+function says(what, n) { return "the sheet says " many(n, what) ", and " }
 
 # A file that was saved in another way.
 function wrong_file(s,    l) {
@@ -223,22 +227,22 @@ function is_wide() {
 function wrong_place(s,    l) {
     if (kind == "left over") return is_blank(s) ? "a blank line is left over" : "this line is left over"
     if (is_blank(s)) return "the line is blank"
+    if (kind in word && begins(tolower(s), word[kind])) return ""
     if (kind == "paths N" && is_path(s)) return "the line 'paths N' is missing"
-    if (kind == "path" && s ~ /^guards/)
-        return "the sheet says " many(paths, "path") ", and line " line " already begins the guards"
+    if (kind == "path" && begins(s, "guards")) return says("path", paths) "line " line " already begins the guards"
+    if (kind == "path" && is_guard(s)) return says("path", paths) "line " line " is a guard line"
+    if (kind == "guards G" && begins(s, "starts")) return "the guards are missing"
+    if (kind == "guards G" && is_guard(s)) return "the line 'guards G' is missing"
     if (kind == "guards G" && is_path(s)) {
         for (l = line; is_path(text[l]); l++);
-        return "the sheet says " many(paths, "path") ", and " many(l - 2, "path line") " stand here"
+        return says("path", paths) many(l - 2, "path line") " stand here"
     }
-    if (kind == "guards G" && is_guard(s)) return "the line 'guards G' is missing"
-    if (kind == "guards G" && s ~ /^starts/) return "the guards are missing"
-    if (kind == "guard" && s ~ /^starts/)
-        return "the sheet says " many(guards, "guard") ", and line " line " already begins the starts"
+    if (kind == "guard" && begins(s, "starts")) return says("guard", guards) "line " line " already begins the starts"
+    if (kind == "starts N" && is_path(s)) return "the line 'starts N' is missing"
     if (kind == "starts N" && is_guard(s)) {
         for (l = line; is_guard(text[l]); l++);
-        return "the sheet says " many(guards, "guard") ", and " many(l - paths - 3, "guard line") " stand here"
+        return says("guard", guards) many(l - paths - 3, "guard line") " stand here"
     }
-    if (kind == "starts N" && is_path(s)) return "the line 'starts N' is missing"
     return ""
 }
 
@@ -258,15 +262,15 @@ function wrong_bytes(s) {
 
 function wrong_count_line(s, w,    n) {
     n = fields(s)
-    if (tolower(field[1]) == w && field[1] != w) return "the word is '" w "', in small letters"
-    if (field[1] != w) return "it does not begin with '" w "'"
-    return n == 2 ? wrong_number(field[2]) : n == 1 ? "the count is missing" : "too many fields"
+    if (field[1] != w) return tolower(field[1]) == w ? "the word is '" w "', in small letters" : "it does not begin with '" w "'"
+    if (n != 2) return "it has " many(n, "field") ", not 2"
+    return wrong_number(field[2])
 }
 
 function wrong_fields(s,    n, due, k, why) {
     due = kind == "guard" ? 3 : 2
     n = fields(s)
-    if (n != due) return many(n, "field") " and not " due
+    if (n != due) return "it has " many(n, "field") ", not " due
     for (k = 1; k < due && why == ""; k++) why = wrong_label(field[k])
     return why == "" ? wrong_number(field[due]) : why
 }
