@@ -1,4 +1,4 @@
-# Finds out why a sheet was refused. Given are its bytes as decimal numbers, and `number` and `line` of the refusal.
+# Finds out why a sheet was refused. Given are its bytes as decimal numbers, and the refusal's `number` and `line`.
 # Prints the line's text, made visible, and the reason; nothing where the number does not fit the line.
 
 BEGIN {
@@ -175,31 +175,34 @@ function pair_twice(a, b,    l) {
     for (l = paths + 3; l < line; l++) {
         fields(text[l])
         if (same(field[1], a) && same(field[2], b)) return "the pair is given twice, first at line " l
-        if (same(field[1], b) && same(field[2], a)) return "the pair is given twice, first at line " l ", the other way round"
+        if (same(field[1], b) && same(field[2], a))
+            return "the pair is given twice, first at line " l ", the other way round"
     }
     return ""
 }
 
 # --- 11: what is wrong in the line, and what it should look like
 
-function wrong_form(    s, why) {
-    if (total == 0) return "the sheet is empty; " form[kind]
-    if (line > rows) return ends_early()
-    s = text[line]
+function wrong_form(    why) {
+    why = line > rows ? ends_early() : wrong_line(text[line])
+    return why == "" ? "" : why "; " form[kind]
+}
+
+function wrong_line(s,    why) {
     why = wrong_file(s)
     if (why == "" && line > whole && is_right(s) && !is_cut()) why = "the line feed at its end is missing"
     if (why == "") why = wrong_place(s)
     if (why == "") why = wrong_bytes(s)
-    if (why == "" && kind in word) why = wrong_count_line(s, word[kind])
-    if (why == "") why = wrong_fields(s)
-    return why == "" ? "" : why "; " form[kind]
+    if (why == "") why = kind in word ? wrong_count_line(s, word[kind]) : wrong_fields(s)
+    return why
 }
 
 function ends_early() {
-    if (kind == "guards G") return "the sheet ends after its paths; " form[kind]
-    if (kind == "path") return says("path", paths) "ends after " many(line - 2, "path line") "; " form[kind]
-    if (kind == "guard") return says("guard", guards) "ends after " many(line - paths - 3, "guard line") "; " form[kind]
-    if (kind == "start") return says("start", paths) "ends after " many(line - paths - guards - 4, "starts line") "; " form[kind]
+    if (kind == "paths N") return "the sheet is empty"
+    if (kind == "path") return says("path", paths) "ends after " many(line - 2, "path line")
+    if (kind == "guards G") return "the sheet ends after its paths"
+    if (kind == "guard") return says("guard", guards) "ends after " many(line - paths - 3, "guard line")
+    if (kind == "start") return says("start", paths) "ends after " many(line - paths - guards - 4, "starts line")
     return ""
 }
 
@@ -212,7 +215,7 @@ function wrong_file(s,    l) {
     if (whole == 0 && s ~ /<carriage return>./) return "the sheet has carriage returns where line feeds must stand"
     if (s !~ /<carriage return>$/) return ""
     for (l = 1; l <= whole; l++)
-        if (text[l] !~ /<carriage return>$/) return "a carriage return stands before the line feed (a Windows line end)"
+        if (text[l] !~ /<carriage return>$/) return "a carriage return stands at its end (a Windows line end)"
     return "the sheet has Windows line ends (carriage returns); save it with line feeds alone"
 }
 
@@ -230,14 +233,14 @@ function wrong_place(s,    l) {
     if (kind in word && begins(tolower(s), word[kind])) return ""
     if (kind == "paths N" && is_path(s)) return "the line 'paths N' is missing"
     if (kind == "path" && begins(s, "guards")) return says("path", paths) "line " line " already begins the guards"
-    if (kind == "path" && is_guard(s)) return says("path", paths) "line " line " is a guard line"
     if (kind == "guards G" && begins(s, "starts")) return "the guards are missing"
     if (kind == "guards G" && is_guard(s)) return "the line 'guards G' is missing"
     if (kind == "guards G" && is_path(s)) {
         for (l = line; is_path(text[l]); l++);
         return says("path", paths) many(l - 2, "path line") " stand here"
     }
-    if (kind == "guard" && begins(s, "starts")) return says("guard", guards) "line " line " already begins the starts"
+    if (kind == "guard" && begins(s, "starts"))
+        return says("guard", guards) "line " line " already begins the starts"
     if (kind == "starts N" && is_path(s)) return "the line 'starts N' is missing"
     if (kind == "starts N" && is_guard(s)) {
         for (l = line; is_guard(text[l]); l++);
@@ -262,9 +265,9 @@ function wrong_bytes(s) {
 
 function wrong_count_line(s, w,    n) {
     n = fields(s)
-    if (field[1] != w) return tolower(field[1]) == w ? "the word is '" w "', in small letters" : "it does not begin with '" w "'"
-    if (n != 2) return "it has " many(n, "field") ", not 2"
-    return wrong_number(field[2])
+    if (field[1] == w) return n == 2 ? wrong_number(field[2]) : "it has " many(n, "field") ", not 2"
+    if (tolower(field[1]) == w) return "the word is '" w "', in small letters"
+    return "it does not begin with '" w "'"
 }
 
 function wrong_fields(s,    n, due, k, why) {
@@ -278,9 +281,9 @@ function wrong_fields(s,    n, due, k, why) {
 function wrong_label(s) {
     if (is_label(s)) return ""
     if (s ~ /^[-0-9A-Z]+$/) return "the label " short(s) " has more than 8 characters"
-    if (s ~ /^[-0-9A-Za-z]+$/) return "the label " short(s) " has small letters, and capitals alone are taken"
+    if (s ~ /^[-0-9A-Za-z]+$/) return "the label " short(s) " has small letters, and only capitals are taken"
     match(s, /[^-0-9A-Za-z]/)
-    return "the label " short(s) " has '" substr(s, RSTART, 1) "', and digits, capitals and hyphens alone are taken"
+    return "the label " short(s) " has '" substr(s, RSTART, 1) "', and only digits, capitals and hyphens are taken"
 }
 
 function wrong_number(s) {
