@@ -111,10 +111,10 @@ function reason() {
     if (kind == "") return ""
     if (number == 11) return wrong_form()
     if (line > whole || !is_right(text[line])) return ""
-    if (number == 1) return wrong_count()
-    if (number == 3 && kind == "path") return "the width is " field[2] ", and must be 1 to 64"
-    if (number == 4 && kind == "guard") return high_guard(field[3])
-    if (number == 7 && kind == "start") return "the start is " field[2] ", and must be 1 to 16384"
+    if (number == 1) return wrong_count(field[2])
+    if (number == 3 && kind == "path") return outside("the width", field[2], 1, 64)
+    if (number == 4 && kind == "guard") return wrong_guard(field[3])
+    if (number == 7 && kind == "start") return outside("the start", field[2], 1, 16384)
     if (number == 12 && kind == "path") return label_twice(field[1])
     if (number == 13 && kind == "guard") return bad_pair(field[1], field[2])
     if (number == 13 && kind == "start") return other_label(field[1])
@@ -122,15 +122,19 @@ function reason() {
     return ""
 }
 
-function wrong_count() {
-    if (kind == "paths N") return "a sheet has 1 to 128 paths"
-    if (kind == "guards G") return "a sheet has at most 2000 guards"
-    if (kind == "starts N") return "the sheet has " many(paths, "path") ", so 'starts " paths "' must stand here"
+function outside(what, n, low, high) {
+    return n < low || n > high ? what " is " n ", and must be " low " to " high : ""
+}
+
+function wrong_count(n) {
+    if (kind == "paths N") return outside("the number of paths", n, 1, 128)
+    if (kind == "guards G") return outside("the number of guards", n, 0, 2000)
+    if (kind == "starts N" && n != paths) return "the sheet has " many(paths, "path") ", so the line is 'starts " paths "'"
     return ""
 }
 
-function high_guard(g) {
-    return "the guard is " g ", and must be 0 to 32" (g == 255 ? "; a pair with no conflict has no line" : "")
+function wrong_guard(g) {
+    return outside("the guard", g, 0, 32) (g == 255 ? "; a pair with no conflict has no line" : "")
 }
 
 # The path line, before a line, that has a label; 0 where there is none.
@@ -168,6 +172,7 @@ function without_zeros(s) { sub(/^0+/, "", s); return s }
 function other_label(label,    l) {
     l = line - (paths + guards + 2)
     fields(text[l])
+    if (same(field[1], label)) return ""
     return "the starts are in the order of the paths, so the label here is " field[1] " (line " l ")"
 }
 
