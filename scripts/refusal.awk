@@ -23,7 +23,7 @@ BEGIN {
 { for (i = 1; i <= NF; i++) take($i + 0) }
 
 END {
-    whole = rows    # so many lines have their line feed
+    whole = rows + 0    # so many lines have their line feed
     if (bytes[rows + 1] > 0) rows++
     paths = is_count(text[1], "paths") ? field[2] : -1
     guards = is_count(text[paths + 2], "guards") ? field[2] : -1
