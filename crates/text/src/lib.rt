@@ -6,6 +6,13 @@ ghost use lib.ListN.{length, drop};
 ghost use Rattle.rules.specs.Text.{run, isDigit, valueFrom};
 ghost use Rattle.text.specs.Says.{classOf, WordIs, LabelIs, NumberIs, LastIs, CountIs, PathLineIs};
 
+// The section words are "compared byte by byte, lower case": the reader compares these, and the writer writes them.
+pub const PATHS_WORD: [u8; 5] = *b"paths";
+
+pub const GUARDS_WORD: [u8; 6] = *b"guards";
+
+pub const STARTS_WORD: [u8; 6] = *b"starts";
+
 // The place after what was read, or nothing of the kind stands there.
 pub enum Next {
     At(usize),

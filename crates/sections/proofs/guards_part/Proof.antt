@@ -12,7 +12,7 @@ use Rattle.text.specs.declared.Amount.the-variants.{Is, Unread}
 use Rattle.sections.specs.Says.{PartWithin, SectionIs}
 use Rattle.sections.specs.declared.Part.the-variants.{Over, Halt}
 use Rattle.sheet_laws.specs.Lines.{guards-ill, guards-many, guards-halt, guards-rest}
-use Rattle.sections.proofs.Answers.{both, moved}
+use Rattle.sections.proofs.Parts.{both, moved}
 use Rattle.sections.proofs.guards_part.Statement.{statement}
 use Rattle.sections.proofs.guards_part.Tie as tie
 

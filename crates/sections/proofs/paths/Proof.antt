@@ -7,7 +7,7 @@ use lib.ListN.{length, drop}
 use denote.Ref.{now}
 use Rattle.rules.specs.Tables.{at}
 use Rattle.rules.specs.Sheet.{lines, pathStep}
-use Rattle.text.specs.Keys.{Keyed, keyed-none}
+use Rattle.labels.specs.Keys.{Keyed, keyed-none}
 use Rattle.lines.specs.Says.{PathStepIs}
 use Rattle.lines.specs.declared.Step.the-variants.{On}
 use Rattle.sheet_laws.specs.Lines.{lines-step, lines-halt, lines-end}

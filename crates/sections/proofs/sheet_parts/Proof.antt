@@ -4,7 +4,7 @@ use native.Mathlib.Omega.{arith}
 use borrow.Author.Needs.{needs}
 use lib.ListN.{drop}
 use denote.Ref.{now}
-use Rattle.rules.specs.Tables.{at}
+use Rattle.rules.specs.Tables.{at, lend}
 use Rattle.rules.specs.Text.{pathsWord}
 use Rattle.rules.specs.Sheet.{lines, pathStep, guardsPart}
 use Rattle.text.specs.Says.{CountIs}
@@ -38,19 +38,19 @@ returns c =
     let a = c .before .before .before .before .before .before .before .before .before .args in
     let s = now (a .text) in
     let z : CountIs s 0 pathsWord Unread = rw (c .enum-told .given .1) at (c .before .before .count-line .ensures) in
-    sheet-ill (now (a .labels)) (now (a .widths)) (now (a .square)) (now (a .table)) s z
+    sheet-ill (now (a .labels)) (lend (now (a .widths)) (now (a .square))) (now (a .table)) s z
 
 returns-2 : tie.Need-returns-2
 returns-2 c =
     let a = c .before .before .before .before .before .before .before .before .before .before .before .args in
     let s = now (a .text) in
-    sheet-few (now (a .labels)) (now (a .widths)) (now (a .square)) (now (a .table)) s (c .before .before .n .given .0 .0) (drop (c .before .before .n .given .0 .1 .0) s) (at-n (c .before .before) .0) (c .if1 .taken)
+    sheet-few (now (a .labels)) (lend (now (a .widths)) (now (a .square))) (now (a .table)) s (c .before .before .n .given .0 .0) (drop (c .before .before .n .given .0 .1 .0) s) (at-n (c .before .before) .0) (c .if1 .taken)
 
 returns-3 : tie.Need-returns-3
 returns-3 c =
     let a = c .before .before .before .before .before .before .before .before .before .before .before .before .args in
     let s = now (a .text) in
-    sheet-many (now (a .labels)) (now (a .widths)) (now (a .square)) (now (a .table)) s (c .before .before .before .n .given .0 .0) (drop (c .before .before .before .n .given .0 .1 .0) s) (at-n (c .before .before .before) .0) (c .if2 .taken)
+    sheet-many (now (a .labels)) (lend (now (a .widths)) (now (a .square))) (now (a .table)) s (c .before .before .before .n .given .0 .0) (drop (c .before .before .before .n .given .0 .1 .0) s) (at-n (c .before .before .before) .0) (c .if2 .taken)
 
 slice-aggregate-paths : tie.Need-slice-aggregate-paths
 slice-aggregate-paths c = search needs
@@ -87,7 +87,7 @@ returns-4 c =
     let a = c .before .before .before .before .before .before .before .before .before .before .before .before .before .before .before .before .before .before .before .before .before .before .before .before .args in
     let s = now (a .text) in
     let z : PathsAre s (c .before .before .before .before .before .before .before .before .paths .last .1 .1 .1 .0) (c .before .before .before .before .before .before .before .before .paths .last .1 .1 .1 .1 .0) (c .before .before .before .before .before .before .before .before .paths .last .1 .1 .1 .1 .1 .0) (c .before .before .before .before .before .before .before .before .before .before .before .before .before .before .before .n .given .0 .0) (lines pathStep 2 (c .before .before .before .before .before .before .before .before .before .before .before .before .before .before .before .n .given .0 .0) 0 (now (a .labels), now (a .widths)) (drop (c .before .before .before .before .before .before .before .before .before .before .before .before .before .before .before .n .given .0 .1 .0) s)) (Halt (c .before .x .given .0 .0) (c .before .x .given .0 .1 .0)) = rw (c .before .x .given .1) at (c .before .before .before .before .before .before .before .before .paths .ensures) in
-    sheet-halt (now (a .labels)) (now (a .widths)) (now (a .square)) (now (a .table)) s (c .before .before .before .before .before .before .before .before .before .before .before .before .before .before .before .n .given .0 .0) (drop (c .before .before .before .before .before .before .before .before .before .before .before .before .before .before .before .n .given .0 .1 .0) s) (at-n (c .before .before .before .before .before .before .before .before .before .before .before .before .before .before .before) .0) (c .before .before .before .before .before .before .before .before .before .before .before .before .before .if1 .left) (c .before .before .before .before .before .before .before .before .before .before .before .before .if2 .left) (c .before .x .given .0 .0) (c .before .x .given .0 .1 .0) z
+    sheet-halt (now (a .labels)) (lend (now (a .widths)) (now (a .square))) (now (a .table)) s (c .before .before .before .before .before .before .before .before .before .before .before .before .before .before .before .n .given .0 .0) (drop (c .before .before .before .before .before .before .before .before .before .before .before .before .before .before .before .n .given .0 .1 .0) s) (at-n (c .before .before .before .before .before .before .before .before .before .before .before .before .before .before .before) .0) (c .before .before .before .before .before .before .before .before .before .before .before .before .before .if1 .left) (c .before .before .before .before .before .before .before .before .before .before .before .before .if2 .left) (c .before .x .given .0 .0) (c .before .x .given .0 .1 .0) z
 
 same-length-3 : tie.Need-same-length-3
 same-length-3 c = search needs
@@ -112,7 +112,7 @@ returns-5 c =
     let table = c .before .before .before .before .before .before .before .guards-part .last .1 .1 .1 .1 .1 .0 in
     let l = drop (c .before .before .before .before .before .before .before .before .before .before .before .before .f .given .0 .0) s in
     let z : SectionIs {T = List ℕ × List ℕ} s (square, table) (guardsPart n labels (now (a .square)) (now (a .table)) l) (Halt (c .before .x2 .given .0 .0) (c .before .x2 .given .0 .1 .0)) = (rw (c .before .x2 .given .1) at (c .before .before .before .before .before .before .before .guards-part .ensures)) .1 labels (at-f (c .before .before .before .before .before .before .before .before .before .before .before .before) .2) in
-    sheet-later (now (a .labels)) (now (a .widths)) (now (a .square)) (now (a .table)) s (c .before .before .before .before .before .before .before .before .before .before .before .before .before .before .before .before .before .before .before .before .before .before .before .before .before .before .n .given .0 .0) (drop (c .before .before .before .before .before .before .before .before .before .before .before .before .before .before .before .before .before .before .before .before .before .before .before .before .before .before .n .given .0 .1 .0) s) (at-n (c .before .before .before .before .before .before .before .before .before .before .before .before .before .before .before .before .before .before .before .before .before .before .before .before .before .before) .0) (c .before .before .before .before .before .before .before .before .before .before .before .before .before .before .before .before .before .before .before .before .before .before .before .before .if1 .left) (c .before .before .before .before .before .before .before .before .before .before .before .before .before .before .before .before .before .before .before .before .before .before .before .if2 .left) labels widths l (at-f (c .before .before .before .before .before .before .before .before .before .before .before .before) .0) (c .before .x2 .given .0 .0) (c .before .x2 .given .0 .1 .0) z
+    sheet-later (now (a .labels)) (lend (now (a .widths)) (now (a .square))) (now (a .table)) s (c .before .before .before .before .before .before .before .before .before .before .before .before .before .before .before .before .before .before .before .before .before .before .before .before .before .before .n .given .0 .0) (drop (c .before .before .before .before .before .before .before .before .before .before .before .before .before .before .before .before .before .before .before .before .before .before .before .before .before .before .n .given .0 .1 .0) s) (at-n (c .before .before .before .before .before .before .before .before .before .before .before .before .before .before .before .before .before .before .before .before .before .before .before .before .before .before) .0) (c .before .before .before .before .before .before .before .before .before .before .before .before .before .before .before .before .before .before .before .before .before .before .before .before .if1 .left) (c .before .before .before .before .before .before .before .before .before .before .before .before .before .before .before .before .before .before .before .before .before .before .before .if2 .left) labels widths l (at-f (c .before .before .before .before .before .before .before .before .before .before .before .before) .0) (c .before .x2 .given .0 .0) (c .before .x2 .given .0 .1 .0) z
 
 same-length-7 : tie.Need-same-length-7
 same-length-7 c = search needs
@@ -137,7 +137,7 @@ returns-6 c =
     let table = c .before .before .before .before .before .before .guards-part .last .1 .1 .1 .1 .1 .0 in
     let l = drop (c .before .before .before .before .before .before .before .before .before .before .before .f .given .0 .0) s in
     let z : SectionIs {T = List ℕ × List ℕ} s (square, table) (guardsPart n labels (now (a .square)) (now (a .table)) l) (Over (c .enum-told2 .given .0 .0)) = (rw (c .enum-told2 .given .1) at (c .before .before .before .before .before .before .guards-part .ensures)) .1 labels (at-f (c .before .before .before .before .before .before .before .before .before .before .before) .2) in
-    sheet-done (now (a .labels)) (now (a .widths)) (now (a .square)) (now (a .table)) s (c .before .before .before .before .before .before .before .before .before .before .before .before .before .before .before .before .before .before .before .before .before .before .before .before .before .n .given .0 .0) (drop (c .before .before .before .before .before .before .before .before .before .before .before .before .before .before .before .before .before .before .before .before .before .before .before .before .before .n .given .0 .1 .0) s) (at-n (c .before .before .before .before .before .before .before .before .before .before .before .before .before .before .before .before .before .before .before .before .before .before .before .before .before) .0) (c .before .before .before .before .before .before .before .before .before .before .before .before .before .before .before .before .before .before .before .before .before .before .before .if1 .left) (c .before .before .before .before .before .before .before .before .before .before .before .before .before .before .before .before .before .before .before .before .before .before .if2 .left) labels widths l (at-f (c .before .before .before .before .before .before .before .before .before .before .before) .0) square table (drop (c .enum-told2 .given .0 .0) s) z
+    sheet-done (now (a .labels)) (lend (now (a .widths)) (now (a .square))) (now (a .table)) s (c .before .before .before .before .before .before .before .before .before .before .before .before .before .before .before .before .before .before .before .before .before .before .before .before .before .n .given .0 .0) (drop (c .before .before .before .before .before .before .before .before .before .before .before .before .before .before .before .before .before .before .before .before .before .before .before .before .before .n .given .0 .1 .0) s) (at-n (c .before .before .before .before .before .before .before .before .before .before .before .before .before .before .before .before .before .before .before .before .before .before .before .before .before) .0) (c .before .before .before .before .before .before .before .before .before .before .before .before .before .before .before .before .before .before .before .before .before .before .before .if1 .left) (c .before .before .before .before .before .before .before .before .before .before .before .before .before .before .before .before .before .before .before .before .before .before .if2 .left) labels widths l (at-f (c .before .before .before .before .before .before .before .before .before .before .before) .0) square table (drop (c .enum-told2 .given .0 .0) s) z
 
 pub sheet-parts-spec : {M : Type 1} → statement M
 sheet-parts-spec =

@@ -1,15 +1,16 @@
--- What the reader's inner functions answer, against the definitions of the rules. A place in a text stands for the text from there on.
+-- What the sections answer, against the definitions of the rules. A place in a text stands for the text from there on.
 -- Assumes nothing.
 use Prim.Native.Nat.{ℕ, _≤_}
 use mathlib.Core.Path.{_≡_}
 use mathlib.Core.List.{List, []}
 use lib.ListN.{length, drop}
+use Rattle.rules.specs.Tables.{Lent, lend}
 use Rattle.rules.specs.Sheet.{Section, halt, done}
-use Rattle.text.specs.Keys.{Keyed}
-use Rattle.sheet.specs.declared.Part.{Part}
-use Rattle.sheet.specs.declared.Part.the-variants.{Over, Halt}
-use Rattle.sheet.specs.declared.Whole.{Whole}
-use Rattle.sheet.specs.declared.Whole.the-variants.{Sheet, Stop}
+use Rattle.labels.specs.Keys.{Keyed}
+use Rattle.sections.specs.declared.Part.{Part}
+use Rattle.sections.specs.declared.Part.the-variants.{Over, Halt}
+use Rattle.sections.specs.declared.Whole.{Whole}
+use Rattle.sections.specs.declared.Whole.the-variants.{Sheet, Stop}
 
 -- a section's answer, over tables of which t is what stands in them afterwards; a refused one leaves them anyhow
 abbrev pub SectionIs : {T : Type 0} → List ℕ → T → Section T → Part → Type 0
@@ -25,6 +26,6 @@ PathsAre s labels widths keys n x (Halt number line) = x ≡ halt number line
 PathsAre s labels widths keys n x (Over e) = (x ≡ done (labels, widths) (drop e s)) × (e ≤ length s) × Keyed labels keys n
 
 -- a whole sheet's answer
-abbrev pub WholeIs : List ℕ → List ℕ → List ℕ → List ℕ → Section (ℕ × List ℕ × List ℕ × List ℕ × List ℕ) → Whole → Type 0
+abbrev pub WholeIs : List ℕ → List ℕ → List ℕ → List ℕ → Section (ℕ × List ℕ × Lent × List ℕ) → Whole → Type 0
 WholeIs labels widths guards starts x (Stop number line) = x ≡ halt number line
-WholeIs labels widths guards starts x (Sheet n) = x ≡ done (n, labels, widths, guards, starts) []
+WholeIs labels widths guards starts x (Sheet n) = x ≡ done (n, labels, lend widths guards, starts) []
