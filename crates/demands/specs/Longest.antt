@@ -2,23 +2,20 @@
 use Prim.Native.Nat.{ℕ, zero, suc, _+_, _*_, _/_, _≤_, _<_}
 use mathlib.Core.Path.{_≡_, refl, sym, ap, _∙_}
 use mathlib.Core.Logic.{_⊎_, inl, inr}
-use mathlib.Core.Bool.{Bool, true, false, cond, _&&_}
+use mathlib.Core.Bool.{Bool, true, false, cond}
 use mathlib.Core.List.{List, [], _++_}
 use lib.ListN.{length, length-append}
-use lib.Dec.{ltb}
-use borrow.Author.Tests.{eq-eqb, le-ltb}
+use borrow.Author.Tests.{eq-eqb}
 use native.Mathlib.Nat.{zero-add}
 use native.Mathlib.Decide.{decLt}
 use native.Mathlib.Omega.{arith}
-use Rattle.rules.specs.declared.Fault.{Fault}
 use Rattle.rules.specs.Tables.{at, cell, Lent}
 use Rattle.rules.specs.Scan.{sum}
 use Rattle.rules.specs.Text.{pathsWord, guardsWord, startsWord, numeral}
-use Rattle.rules.specs.Writing.{badLabel, labelTwice, isPair, pairs, hasPlan, joinFrom, countText, pathText, guardText, pathsText, guardsText, startsText, sheetText}
-use Rattle.rules.specs.Numbers.{refuseIf, scan, badStart, networkFault, sheetSizes, writeFault}
+use Rattle.rules.specs.Writing.{isPair, pairs, hasPlan, joinFrom, countText, pathText, guardText, pathsText, guardsText, startsText, sheetText}
+use Rattle.rules.specs.Numbers.{writeFault}
 use Rattle.rules.specs.Calls.{unless, writing}
 use Rattle.table_laws.specs.Scans.{sumFrom, sum-from}
-use Rattle.table_laws.specs.Faults.{or-clear, or-none, refuse-not}
 use Rattle.sheet_laws.specs.Writes.{label-short, digits-one, digits-more, digits-few, count-length, path-length, pair-length, guard-none, guard-some, pair-order}
 use Rattle.demands.specs.Writable.{Writable, writing-writable, writable-writing, clear-write}
 use Rattle.table_laws.specs.Scans.{sumFrom, sum-from}

@@ -39,9 +39,6 @@ module _ (n : ℕ) (lent : Lent) (starts : List ℕ) (zero-answer : pressing n l
   press-is : press ≡ donePacked net n (pressed net n starts)
   press-is = judgeable-pressing n lent starts judgeable
 
-  pub pressing-from-valid : Valid net n (at starts)
-  pressing-from-valid = judgeable .valid
-
   -- a valid plan that keeps for each conflicting pair which is lower
   pub pressing-valid : Valid net n (at (press .tables))
   unfolding donePacked

@@ -11,22 +11,18 @@ use lib.ListN.{length, take, drop, set, length-set, length-take, length-drop, dr
 use lib.Seq.{ext-getD, getD-take, getD-drop, drop-cons}
 use lib.Dec.{ltb, leb, eqb}
 use borrow.Author.Tests.{ltb-true, leb-true, le-ltb, eqb-false, ne-eqb, not-true}
-use Rattle.rules.specs.declared.Fault.{Fault}
 use Rattle.rules.specs.Tables.{at, cell, cleared, labelByte, Lent, lend, clearedNetwork}
-use Rattle.rules.specs.Limits.{Network}
 use Rattle.rules.specs.Scan.{first, found, sum}
 use Rattle.rules.specs.Text.{Parsed, none, some, then, pathsWord, guardsWord, startsWord, isDigit, isLabelByte, run, label, number}
 use Rattle.rules.specs.Sheet.{isRow, find, bytesFrom, putRow, Line, wrong, right, Section, halt, done, follow, lines, countLine, pathLine, guardLine, pathMeans, pathStep, guardCell, guardMeans, guardStep, startMeans, startStep, counted, after, ended, startsPart, guardsPart, sheetFrom}
-use Rattle.rules.specs.Writing.{labelOf, badLabel, labelTwice, isPair, pairs, hasPlan, sheetText}
-use Rattle.rules.specs.Numbers.{noFault, sizeFault, badStart, networkSizes, sheetSizes, writeFault}
+use Rattle.rules.specs.Writing.{labelOf, badLabel, labelTwice, isPair, pairs, hasPlan}
+use Rattle.rules.specs.Numbers.{sheetSizes}
 use Rattle.rules.specs.declared.SheetRead.{SheetRead}
 use Rattle.rules.specs.declared.SheetWritten.{SheetWritten}
 use Rattle.rules.specs.Calls.{Left, readOutcome, reading, writing}
 use Rattle.table_laws.specs.Count.{each-suc}
 use Rattle.table_laws.specs.Scans.{found-none, found-same, sum-same}
 use Rattle.table_laws.specs.Tables.{at-same, at-other, cleared-length, cleared-at}
-use Rattle.table_laws.specs.Faults.{refuse-not, or-none, scan-none, size-good}
-use Rattle.table_laws.specs.Limits.{within-network, outside-none}
 use Rattle.plan_laws.specs.Answers.{unless-done}
 use Rattle.sheet_laws.specs.Texts.{All}
 use Rattle.sheet_laws.specs.Rows.{row-same, bytes-length, bytes-at, put-length, put-in, put-before}

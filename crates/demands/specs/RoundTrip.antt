@@ -1,16 +1,15 @@
 -- What the writer writes, the reader reads back: a line, a section, and the whole sheet. Assumes nothing.
 use Prim.Native.Nat.{ℕ, zero, suc, _+_, _*_, _≤_, _<_}
 use mathlib.Core.Path.{_≡_, refl, sym, ap, _∙_}
-use mathlib.Core.Logic.{_⊎_}
 use mathlib.Core.Bool.{Bool, true, false, cond}
 use mathlib.Core.List.{List, [], _∷_, _++_, append-assoc}
 use lib.ListN.{length, set, drop, take}
 use native.Mathlib.Nat.{add-zero, zero-add}
 use native.Mathlib.Omega.{arith}
-use Rattle.rules.specs.Tables.{at, cell, Lent}
+use Rattle.rules.specs.Tables.{at, Lent}
 use Rattle.rules.specs.Text.{some, then, space, lineFeed, isDigit, isLabelByte, run, numeral}
 use Rattle.rules.specs.Sheet.{isRow, find, Line, right, done, follow, lines, lastField, countLine, pathLine, guardLine, pathStep, startStep}
-use Rattle.rules.specs.Writing.{labelOf, badLabel, labelTwice, pairs, hasPlan, joinFrom, countText, pathText}
+use Rattle.rules.specs.Writing.{labelOf, labelTwice, hasPlan, joinFrom, countText, pathText}
 use Rattle.table_laws.specs.Scans.{first-at, first-none, found-not}
 use Rattle.sheet_laws.specs.Texts.{All, label-trip, word-trip, number-trip}
 use Rattle.sheet_laws.specs.Rows.{row-bytes}

@@ -1,23 +1,19 @@
 -- A sheet that was read back is written again to the same bytes: the writer looks at the cells of n paths alone. Assumes nothing.
 use Prim.Native.Nat.{ℕ, zero, suc, _+_, _*_, _≤_, _<_}
 use mathlib.Core.Path.{_≡_, refl, sym, ap, _∙_}
-use mathlib.Core.Bool.{Bool, cond, not, _&&_, _||_}
+use mathlib.Core.Bool.{Bool, cond, not, _&&_}
 use mathlib.Core.List.{List}
 use lib.ListN.{length, drop, take, length-take, length-drop}
 use lib.Seq.{ext-getD, getD-take, getD-drop}
 use lib.Dec.{ltb, eqb}
 use native.Mathlib.Omega.{arith}
-use borrow.Author.Tests.{le-ltb, eq-eqb}
-use Rattle.rules.specs.declared.Fault.{Fault}
 use Rattle.rules.specs.Tables.{at, cell, Lent, lend}
 use Rattle.rules.specs.Scan.{found, sum}
 use Rattle.rules.specs.Text.{isLabelByte, run}
 use Rattle.rules.specs.Sheet.{isRow}
 use Rattle.rules.specs.Writing.{labelOf, badLabel, labelTwice, isPair, pairs, hasPlan, joinFrom, pathText, guardText, pathsText, guardsText, startsText, sheetText}
-use Rattle.rules.specs.Numbers.{noFault, refuseIf, _orElse_, scan, square, outside, badWidth, badGuard, badMirror, badStart, countFault, sizeFault, networkSizes, networkFault, sheetSizes, writeFault}
-use Rattle.rules.specs.Calls.{unless, writing}
+use Rattle.rules.specs.Calls.{writing}
 use Rattle.table_laws.specs.Scans.{found-same, sum-same}
-use Rattle.table_laws.specs.Faults.{or-clear, or-none, refuse-not, scan-none, scan-clear, square-none, square-clear, size-good, size-clear}
 use Rattle.demands.specs.Kept.{front-in, keptCells, keptLabels, cells-length, cells-at, labels-length, labels-at, row-kept, tab-length, tab-at}
 use Rattle.demands.specs.GuardTrip.{keptGuards, squareOf, square-in, keptNetwork}
 use Rattle.demands.specs.SheetTrip.{sheetOf, written-sheet}

@@ -1,31 +1,27 @@
 -- A whole sheet: what the writer writes, the reader reads back to the same n, labels, widths, guards and starts, cells past n cleared.
 -- Assumes nothing.
-use Prim.Native.Nat.{ℕ, _+_, _≤_, _<_}
+use Prim.Native.Nat.{ℕ, _+_, _<_}
 use mathlib.Core.Path.{_≡_, refl, sym, ap, _∙_}
-use mathlib.Core.Logic.{_⊎_, inl, inr}
-use mathlib.Core.Bool.{Bool, true, false, cond, not, _&&_, true≢false}
+use mathlib.Core.Bool.{Bool, true, false, cond, not, true≢false}
 use mathlib.Core.List.{List, [], _++_, append-assoc, append-nil}
 use lib.ListN.{length, drop, take, length-append}
 use lib.Seq.{drop-length, take-append-seam}
-use lib.Dec.{ltb, eqb}
+use lib.Dec.{eqb}
 use native.Mathlib.Decide.{decLt}
 use native.Mathlib.Omega.{arith}
-use borrow.Author.Tests.{ltb-false, eqb-true, eq-eqb}
-use Rattle.rules.specs.declared.Fault.{Fault}
+use borrow.Author.Tests.{eqb-true, eq-eqb}
 use Rattle.rules.specs.declared.SheetWritten.{SheetWritten}
 use Rattle.rules.specs.Tables.{at, cleared, Lent, clearedNetwork}
 use Rattle.rules.specs.Text.{some, pathsWord, guardsWord, startsWord}
 use Rattle.rules.specs.Sheet.{done, lines, countLine, pathStep, startStep, after, startsPart, guardsPart, sheetFrom}
-use Rattle.rules.specs.Writing.{badLabel, labelTwice, pairs, hasPlan, joinFrom, countText, pathText, guardText, pathsText, guardsText, startsText, sheetText}
-use Rattle.rules.specs.Numbers.{refuseIf, scan, badStart, networkFault, sheetSizes, writeFault}
+use Rattle.rules.specs.Writing.{pairs, hasPlan, joinFrom, countText, pathText, guardText, pathsText, guardsText, startsText, sheetText}
+use Rattle.rules.specs.Numbers.{sheetSizes, writeFault}
 use Rattle.rules.specs.Calls.{Left, left, unless, readOutcome, reading, writing}
 use Rattle.table_laws.specs.Scans.{found-not}
 use Rattle.table_laws.specs.Tables.{cleared-length, cleared-at}
-use Rattle.table_laws.specs.Faults.{refuse-clear, or-clear, scan-clear}
-use Rattle.table_laws.specs.Limits.{network-within, outside-not}
 use Rattle.sheet_laws.specs.Lines.{starts-none, starts-done, guards-rest, sheet-done}
 use Rattle.sheet_laws.specs.Writes.{count-length}
-use Rattle.demands.specs.Writable.{Writable, write-clear, writing-writable, clear-write}
+use Rattle.demands.specs.Writable.{Writable, writing-writable, clear-write}
 use Rattle.demands.specs.Kept.{front, front-in, front-past, keptCells, keptLabels, cells-is, cells-none, labels-none}
 use Rattle.demands.specs.RoundTrip.{count-trip, paths-back, starts-back}
 use Rattle.demands.specs.GuardTrip.{keptGuards, guards-back, keptNetwork}

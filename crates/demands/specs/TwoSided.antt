@@ -2,7 +2,7 @@
 use Prim.Native.Nat.{ℕ, _+_, _-_, _≤_, _<_}
 use mathlib.Core.Path.{_≡_, refl, sym, ap, _∙_}
 use mathlib.Core.Logic.{_≢_, _⊎_, inl, inr}
-use mathlib.Core.Bool.{Bool, true, false, cond, not, true≢false, false≢true}
+use mathlib.Core.Bool.{Bool, true, false, cond, not, false≢true}
 use mathlib.Core.List.{List}
 use native.Mathlib.Omega.{arith}
 use lib.ListN.{length}
@@ -41,15 +41,6 @@ module _ (net : Net) (n : ℕ) where
   unfolding flip
   walk-side s split l here = refl
   walk-side s split {i} l (step {j} {k} {odd} w h c) = split j k (walk-below l w) h c ∙ ap not (walk-side s split l w) ∙ flip-not odd (s i)
-
-  -- a walk of odd length from a path to itself leaves no two sides
-  pub odd-none : (s : ℕ → Bool) → Split net n s → {i : ℕ} → i < n → Walk net n i i true → ⊥
-  unfolding flip
-  odd-none s split {i} l w = go (s i) (walk-side s split l w)
-    where
-      go : (x : Bool) → x ≡ not x → ⊥
-      go true e = true≢false e
-      go false e = false≢true e
 
   -- what the figure for the two-sided order bounds
   figure-width : (k : ℕ) → k < n → net .width k ≤ twoSidedHighest net n

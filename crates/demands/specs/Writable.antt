@@ -4,16 +4,15 @@ use mathlib.Core.Path.{_≡_, refl, sym, ap, _∙_}
 use mathlib.Core.Bool.{Bool, true, false, _&&_}
 use mathlib.Core.List.{List}
 use lib.ListN.{length}
-use lib.Dec.{ltb, eqb}
+use lib.Dec.{ltb}
 use native.Mathlib.Omega.{arith}
-use borrow.Author.Tests.{ltb-false, le-ltb, eq-eqb}
-use Rattle.rules.specs.declared.Fault.{Fault}
+use borrow.Author.Tests.{ltb-false, le-ltb}
 use Rattle.rules.specs.declared.SheetWritten.{SheetWritten}
 use Rattle.rules.specs.Tables.{at, Lent}
 use Rattle.rules.specs.Limits.{Network}
 use Rattle.rules.specs.Writing.{badLabel, labelTwice, pairs, hasPlan, sheetText}
 use Rattle.rules.specs.Numbers.{refuseIf, scan, badStart, sizeFault, lentFault, labelSizes, writeFault}
-use Rattle.rules.specs.Calls.{Left, unless, writing}
+use Rattle.rules.specs.Calls.{Left, writing}
 use Rattle.table_laws.specs.Faults.{refuse-not, refuse-clear, or-clear, or-none, scan-none, scan-clear, size-good, size-clear}
 use Rattle.table_laws.specs.Limits.{clear-of, outside-not, outside-none}
 use Rattle.table_laws.specs.Chains.{lent-clear, clear-lent}

@@ -4,7 +4,7 @@ use mathlib.Core.Path.{_≡_, refl}
 use mathlib.Core.Bool.{Bool, true, false, cond}
 use native.Mathlib.Omega.{arith}
 use lib.Dec.{ltb}
-use borrow.Author.Tests.{ltb-true, lt-ltb, le-ltb}
+use borrow.Author.Tests.{ltb-true, lt-ltb}
 use Rattle.rules.specs.Plan.{Net, Conflict}
 use Rattle.rules.specs.Packing.{past, reach, lowest}
 use Rattle.table_laws.specs.Count.{each-suc}
@@ -48,19 +48,6 @@ module _ (net : Net) where
   unfolding lowest
   lowest-le p o zero k x l h = l
   lowest-le p o (suc m) k x l h = omega (arith, lowest-le p o m k x l (λ i g. h i (omega arith)), reach-le (o m) k (p (o m)) x (h m (omega arith)))
-
-  -- for the code: a number that is the reach, or the next lowest
-  pub reach-conflict : (j k s r : ℕ) → Conflict net j k → r ≡ past net j k s → r ≡ reach net j k s
-  unfolding reach
-  reach-conflict j k s r c e = rw (lt-ltb (net .guard j k) 255 c) e
-
-  pub reach-free : (j k s : ℕ) → 255 ≤ net .guard j k → 0 ≡ reach net j k s
-  unfolding reach
-  reach-free j k s c = rw (le-ltb (net .guard j k) 255 c)
-
-  pub lowest-next : (p o : ℕ → ℕ) (m k low r : ℕ) → low ≡ lowest net p o m k → r ≡ reach net (o m) k (p (o m)) → max low r ≡ lowest net p o (suc m) k
-  unfolding lowest
-  lowest-next p o m k low r e f = omega arith
 
   -- it goes by the first m of the order and their starts alone
   pub lowest-local : Local (lowest net)

@@ -191,14 +191,6 @@ pair-length labels guards i j =
       length-append number lineFeed,
     )
 
-pub guard-bound : (labels guards : List ℕ) (i j : ℕ) → at guards (cell i j) < 100000 → length (guardText labels guards i j) ≤ 24
-guard-bound labels guards i j b = go (isPair guards i j) refl
-  where
-    go : (t : Bool) → isPair guards i j ≡ t → length (guardText labels guards i j) ≤ 24
-    go true e =
-        omega (arith, ap length (guard-some labels guards i j e), pair-length labels guards i j, label-short labels i, label-short labels j, digits-few (at guards (cell i j)) b)
-    go false e = omega (arith, ap length (guard-none labels guards i j e))
-
 -- which pairs have a guard line
 pub pair-late : (guards : List ℕ) (i j : ℕ) → j ≤ i → isPair guards i j ≡ false
 unfolding isPair

@@ -10,7 +10,7 @@ ghost use lib.ListN.{length};
 ghost use mathlib.Core.List.{List};
 ghost use Rattle.rules.specs.Tables.{at, cell, lend};
 ghost use Rattle.rules.specs.Scan.{first};
-ghost use Rattle.rules.specs.Numbers.{fault, noFault, refuseIf, scan, square, outside, countFault, networkSizes, planSizes, badGuard, badMirror, orderFault, startFault, networkFault, lentFault};
+ghost use Rattle.rules.specs.Numbers.{fault, noFault, refuseIf, scan, square, outside, countFault, networkSizes, planSizes, badGuard, badMirror, orderFault, startFault, networkFault, lentFault, packFault};
 ghost use Rattle.tables.specs.Cells.{badCell};
 
 pub fn refused(number: usize, place: usize) -> Fault
@@ -324,4 +324,16 @@ pub fn lent_fault(n: usize, widths: &[u16], guards: &[u8], sizes: Fault) -> Faul
         return sizes;
     }
     network_fault(n, widths, guards)
+}
+
+// The tests of packing into a table of so many starts: 2, 1, 3, 4, 5, 6.
+pub fn pack_fault(n: usize, widths: &[u16], guards: &[u8], order: &[u8], starts: usize) -> Fault
+    ensures { λ r. ⌜ ((s : List ℕ) → length s ≡ starts → r ≡ packFault n (lend (now (widths .entry)) (now (guards .entry))) (now (order .entry)) s) ⌝ }
+{
+    let sizes = plan_sizes(order.len(), starts);
+    let f = lent_fault(n, widths, guards, sizes);
+    if f.number != 0 {
+        return f;
+    }
+    order_fault(n, order)
 }

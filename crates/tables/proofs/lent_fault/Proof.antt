@@ -1,30 +1,34 @@
+use mathlib.Core.Path.{refl}
+use Rattle.rules.specs.Numbers.{lentFault}
+use Rattle.table_laws.specs.Faults.{or-stop, or-on}
+use Rattle.table_laws.specs.Chains.{number-of, sizes-clear}
 use borrow.Author.Needs.{needs}
 use Rattle.tables.proofs.lent_fault.Statement.{statement}
 use Rattle.tables.proofs.lent_fault.Tie as tie
-use Rattle.tables.proofs.lent_fault.Reads as reads
-use Rattle.tables.proofs.lent_fault.Lts as lts
-use Rattle.tables.proofs.network_fault.Reads as network-fault-reads
-use Rattle.tables.proofs.network_sizes.Reads as network-sizes-reads
 
--- src/lib.rt:319:9
 network-sizes-requires : tie.Need-network-sizes-requires
 network-sizes-requires c κs = search needs
 
--- src/lib.rt:321:9
 returns : tie.Need-returns
-returns c = ?
+unfolding lentFault
+returns c = or-stop _ (c .before .before .network-sizes .ensures) (c .if1 .taken)
 
--- src/lib.rt:324:9
 returns-2 : tie.Need-returns-2
-returns-2 c = ?
+unfolding lentFault
+returns-2 c =
+    let f = c .before .before in
+    or-on _ (f .before .before .network-sizes .ensures) (f .if1 .left) (or-stop _ refl (c .if2 .taken))
 
--- src/lib.rt:326:5
 network-fault-requires : tie.Need-network-fault-requires
-network-fault-requires c κs = ?
+network-fault-requires c κs =
+    let f = c .before .before in
+    sizes-clear _ (number-of (f .before .before .network-sizes .ensures) (f .if1 .left))
 
--- src/lib.rt:316:1
 returns-3 : tie.Need-returns-3
-returns-3 c = ?
+unfolding lentFault
+returns-3 c =
+    let f = c .before .before .before in
+    or-on _ (f .before .before .network-sizes .ensures) (f .if1 .left) (or-on _ refl (c .before .if2 .left) (c .network-fault .ensures))
 
 pub lent-fault-spec : {M : Type 1} → statement M
 lent-fault-spec =

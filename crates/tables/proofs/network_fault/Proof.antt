@@ -12,18 +12,18 @@ returns : tie.Need-returns
 unfolding networkFault
 returns c = or-stop _ (c .before .before .count-fault .ensures) (c .if1 .taken)
 
-width-fault-requires : tie.Need-width-fault-requires
-width-fault-requires c κs = (count-clear _ (number-of (c .before .before .count-fault .ensures) (c .if1 .left)) .1, search needs)
+range-fault-requires : tie.Need-range-fault-requires
+range-fault-requires c κs = (count-clear _ (number-of (c .before .before .count-fault .ensures) (c .if1 .left)) .1, search needs)
 
 returns-2 : tie.Need-returns-2
 unfolding networkFault
 returns-2 c =
     let w = c .before .before in
     let n = w .before .before .before in
-    or-on _ (n .count-fault .ensures) (w .before .if1 .left) (or-stop _ (w .width-fault .ensures) (c .if2 .taken))
+    or-on _ (n .count-fault .ensures) (w .before .if1 .left) (or-stop _ (w .range-fault .ensures) (c .if2 .taken))
 
-guard-fault-requires : tie.Need-guard-fault-requires
-guard-fault-requires c κs =
+square-fault-requires : tie.Need-square-fault-requires
+square-fault-requires c κs =
     let w = c .before .before in
     let n = w .before .before .before in
     (count-clear _ (number-of (n .count-fault .ensures) (w .before .if1 .left)) .1, search needs)
@@ -34,10 +34,10 @@ returns-3 c =
     let g = c .before .before in
     let w = g .before .before .before in
     let n = w .before .before .before in
-    or-on _ (n .count-fault .ensures) (w .before .if1 .left) (or-on _ (w .width-fault .ensures) (g .before .if2 .left) (or-stop _ (g .guard-fault .ensures) (c .if3 .taken)))
+    or-on _ (n .count-fault .ensures) (w .before .if1 .left) (or-on _ (w .range-fault .ensures) (g .before .if2 .left) (or-stop _ (g .square-fault .ensures) (c .if3 .taken)))
 
-mirror-fault-requires : tie.Need-mirror-fault-requires
-mirror-fault-requires c κs =
+square-fault-requires-2 : tie.Need-square-fault-requires-2
+square-fault-requires-2 c κs =
     let w = c .before .before .before .before .before in
     let n = w .before .before .before in
     (count-clear _ (number-of (n .count-fault .ensures) (w .before .if1 .left)) .1, search needs)
@@ -48,7 +48,7 @@ returns-4 c =
     let g = c .before .before .before in
     let w = g .before .before .before in
     let n = w .before .before .before in
-    or-on _ (n .count-fault .ensures) (w .before .if1 .left) (or-on _ (w .width-fault .ensures) (g .before .if2 .left) (or-on _ (g .guard-fault .ensures) (c .before .if3 .left) (c .mirror-fault .ensures)))
+    or-on _ (n .count-fault .ensures) (w .before .if1 .left) (or-on _ (w .range-fault .ensures) (g .before .if2 .left) (or-on _ (g .square-fault .ensures) (c .before .if3 .left) (c .square-fault2 .ensures)))
 
 pub network-fault-spec : {M : Type 1} → statement M
 network-fault-spec =
@@ -56,9 +56,9 @@ network-fault-spec =
     (tie.spec
     count-fault-requires
     returns
-    width-fault-requires
+    range-fault-requires
     returns-2
-    guard-fault-requires
+    square-fault-requires
     returns-3
-    mirror-fault-requires
+    square-fault-requires-2
     returns-4)
