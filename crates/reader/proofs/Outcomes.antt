@@ -2,19 +2,11 @@
 use Prim.Native.Nat.{ℕ}
 use mathlib.Core.Path.{_≡_, sym, ap, _∙_}
 use mathlib.Core.List.{List, []}
-use lib.ListN.{length}
 use Rattle.rules.specs.declared.SheetRead.{SheetRead}
 use Rattle.rules.specs.Tables.{cleared, Lent, lend, clearedNetwork}
 use Rattle.rules.specs.Sheet.{Section, halt, done, sheetFrom}
 use Rattle.rules.specs.Calls.{Left, left, readOutcome}
-use Rattle.sheet_laws.specs.Sizes.{Sized}
 use Rattle.reader.specs.Blank.{Blank}
-
--- tables of their sizes have them still, and then are of equal sizes
-pub sized-still : (labels widths guards starts labels′ widths′ guards′ starts′ : List ℕ) → Sized labels widths guards starts
-    → length labels′ ≡ length labels → length widths′ ≡ length widths → length guards′ ≡ length guards → length starts′ ≡ length starts → Sized labels′ widths′ guards′ starts′
-sized-still labels widths guards starts labels′ widths′ guards′ starts′ z a b c d =
-    record { labels-size = a ∙ z .labels-size; widths-size = b ∙ z .widths-size; guards-size = c ∙ z .guards-size; starts-size = d ∙ z .starts-size }
 
 abbrev blankSheet : List ℕ → Section (ℕ × List ℕ × Lent × List ℕ)
 blankSheet s = sheetFrom (cleared 1024 0) clearedNetwork (cleared 128 0) s

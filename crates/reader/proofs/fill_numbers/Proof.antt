@@ -13,7 +13,7 @@ abbrev μ-loop : tie.MeasureT-loop
 μ-loop table₀ value i₀ table i = length table₀ - i
 
 loop-holds : tie.Need-loop-holds Inv-loop μ-loop
-loop-holds c = fill-none (c .before .args .value) (now (c .before .args .table))
+loop-holds c = fill-none (c .args .value) (now (c .args .table))
 
 mul-table : tie.Need-mul-table Inv-loop μ-loop
 mul-table c = omega arith

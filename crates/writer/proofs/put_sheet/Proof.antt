@@ -9,7 +9,7 @@ use Rattle.rules.specs.Tables.{at}
 use Rattle.rules.specs.Text.{pathsWord, guardsWord}
 use Rattle.rules.specs.Writing.{pairs, joinFrom, countText, pathText, startsText}
 use Rattle.sheet_laws.specs.Writes.{both-pieces}
-use Rattle.text.specs.Says.{Wrote}
+use Rattle.spelling.specs.Says.{Wrote}
 use Rattle.writer.specs.Written.{guardLines}
 use Rattle.writer.proofs.Sheets.{sheet-length, sheet-pieces}
 use Rattle.writer.proofs.put_sheet.Statement.{statement}

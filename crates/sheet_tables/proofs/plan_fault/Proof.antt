@@ -1,9 +1,9 @@
 use mathlib.Core.Path.{sym, _∙_}
 use borrow.Author.Needs.{needs}
 use denote.Ref.{now}
-use Rattle.writable.proofs.Sheets.{plan-tested, plan-untested}
-use Rattle.writable.proofs.plan_fault.Statement.{statement}
-use Rattle.writable.proofs.plan_fault.Tie as tie
+use Rattle.sheet_tables.proofs.Plans.{plan-tested, plan-untested}
+use Rattle.sheet_tables.proofs.plan_fault.Statement.{statement}
+use Rattle.sheet_tables.proofs.plan_fault.Tie as tie
 
 has-plan-requires : tie.Need-has-plan-requires
 has-plan-requires c κs = search needs

@@ -1,2 +1,1 @@
-pub mod Says
 pub mod Written

@@ -10,9 +10,9 @@ use lib.Dec.{ltb}
 use denote.Ref.{now}
 use Rattle.rules.specs.Writing.{labelTwice}
 use Rattle.table_laws.specs.Faults.{scan-at, scan-none}
-use Rattle.text.specs.Keys.{Keyed, keyed-next, twice-key}
-use Rattle.writable.proofs.twice_fault.Statement.{statement}
-use Rattle.writable.proofs.twice_fault.Tie as tie
+use Rattle.labels.specs.Keys.{Keyed, keyed-next, twice-key}
+use Rattle.sheet_tables.proofs.twice_fault.Statement.{statement}
+use Rattle.sheet_tables.proofs.twice_fault.Tie as tie
 
 abbrev Inv-loop : tie.InvT-loop
 Inv-loop n labels keys₀ k₀ keys k = (k ≤ n) × ((i : ℕ) → i < k → labelTwice labels i ≡ false) × Keyed labels keys k × (length keys ≡ 128)

@@ -6,9 +6,9 @@ use denote.Ref.{now}
 use Rattle.rules.specs.Tables.{at}
 use Rattle.rules.specs.Scan.{sum}
 use Rattle.rules.specs.Writing.{isPair, pairs}
-use Rattle.table_laws.specs.Scans.{sum-next}
-use Rattle.writable.proofs.pair_count.Statement.{statement}
-use Rattle.writable.proofs.pair_count.Tie as tie
+use Rattle.table_laws.specs.Scans.{sum-suc}
+use Rattle.sheet_tables.proofs.pair_count.Statement.{statement}
+use Rattle.sheet_tables.proofs.pair_count.Tie as tie
 
 abbrev Inv-loop : tie.InvT-loop
 Inv-loop n guards count₀ i₀ count i = (count ≡ sum (λ k. sum (λ j. cond (isPair guards k j) 1 0) n) i) × (i ≤ n) × (count ≤ 128 * i)
@@ -36,7 +36,7 @@ loop-again : tie.Need-loop-again Inv-loop μ-loop
 loop-again c =
     let a = c .before .before .before .before .args in
     let o = c .before .before .loop in
-    (omega (arith, o .inv .0, c .row-pairs .ensures .0, sum-next (λ i. sum (λ j. cond (isPair (now (a .guards)) i j) 1 0) (a .n)) (o .i)), omega arith, omega (arith, c .row-pairs .ensures .1))
+    (omega (arith, o .inv .0, c .row-pairs .ensures .0, sum-suc (λ i. sum (λ j. cond (isPair (now (a .guards)) i j) 1 0) (a .n)) (o .i)), omega arith, omega (arith, c .row-pairs .ensures .1))
 
 returns : tie.Need-returns Inv-loop μ-loop
 unfolding pairs

@@ -9,8 +9,8 @@ use denote.Ref.{now}
 use Rattle.rules.specs.Tables.{at}
 use Rattle.rules.specs.Writing.{hasPlan}
 use Rattle.table_laws.specs.Scans.{found-at, found-none}
-use Rattle.writable.proofs.has_plan.Statement.{statement}
-use Rattle.writable.proofs.has_plan.Tie as tie
+use Rattle.sheet_tables.proofs.has_plan.Statement.{statement}
+use Rattle.sheet_tables.proofs.has_plan.Tie as tie
 
 abbrev Inv-loop : tie.InvT-loop
 Inv-loop n starts k₀ k = (k ≤ n) × ((i : ℕ) → i < k → not (eqb (at starts i) 0) ≡ false)

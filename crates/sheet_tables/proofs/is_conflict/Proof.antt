@@ -1,8 +1,8 @@
 use mathlib.Core.Path.{sym, ap}
 use mathlib.Core.Bool.{Bool, cond}
 use borrow.Author.Tests.{lt-ltb, le-ltb}
-use Rattle.writable.proofs.is_conflict.Statement.{statement}
-use Rattle.writable.proofs.is_conflict.Tie as tie
+use Rattle.sheet_tables.proofs.is_conflict.Statement.{statement}
+use Rattle.sheet_tables.proofs.is_conflict.Tie as tie
 
 returns : tie.Need-returns
 returns c = ap (λ (b : Bool). cond b 1 0) (sym (lt-ltb (c .before .args .guard) 255 (c .if1 .taken)))

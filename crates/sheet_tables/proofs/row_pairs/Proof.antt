@@ -8,9 +8,9 @@ use Rattle.rules.specs.Tables.{at, cell}
 use Rattle.rules.specs.Scan.{sum}
 use Rattle.rules.specs.Writing.{isPair}
 use Rattle.sheet_laws.specs.Writes.{pair-test, pairs-before}
-use Rattle.table_laws.specs.Scans.{sum-next}
-use Rattle.writable.proofs.row_pairs.Statement.{statement}
-use Rattle.writable.proofs.row_pairs.Tie as tie
+use Rattle.table_laws.specs.Scans.{sum-suc}
+use Rattle.sheet_tables.proofs.row_pairs.Statement.{statement}
+use Rattle.sheet_tables.proofs.row_pairs.Tie as tie
 
 conflict-few : (g : ℕ) → cond (ltb g 255) 1 0 ≤ 1
 conflict-few g = go (ltb g 255)
@@ -62,7 +62,7 @@ loop-again c =
     let o = c .before .before .before .loop in
     let h = conflict-few (at (now (a .guards)) (cell (a .i) (o .j))) in
     let e = ap {B = ℕ} (λ (b : Bool). cond b 1 0) (pair-test (now (a .guards)) (a .i) (o .j) (o .inv .1)) in
-    (omega (arith, c .is-conflict .ensures, e, sum-next (λ j. cond (isPair (now (a .guards)) (a .i) j) 1 0) (o .j), o .inv .0), omega arith, omega arith, omega (arith, c .is-conflict .ensures))
+    (omega (arith, c .is-conflict .ensures, e, sum-suc (λ j. cond (isPair (now (a .guards)) (a .i) j) 1 0) (o .j), o .inv .0), omega arith, omega arith, omega (arith, c .is-conflict .ensures))
 
 returns : tie.Need-returns Inv-loop μ-loop
 returns c =

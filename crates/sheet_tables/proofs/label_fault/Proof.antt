@@ -6,8 +6,8 @@ use borrow.Author.Count.{below-none, below-more}
 use denote.Ref.{now}
 use Rattle.rules.specs.Writing.{badLabel}
 use Rattle.table_laws.specs.Faults.{scan-at, scan-none}
-use Rattle.writable.proofs.label_fault.Statement.{statement}
-use Rattle.writable.proofs.label_fault.Tie as tie
+use Rattle.sheet_tables.proofs.label_fault.Statement.{statement}
+use Rattle.sheet_tables.proofs.label_fault.Tie as tie
 
 abbrev Inv-loop : tie.InvT-loop
 Inv-loop n labels k₀ k = (k ≤ n) × ((i : ℕ) → i < k → badLabel labels i ≡ false)
