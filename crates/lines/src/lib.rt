@@ -22,6 +22,13 @@ pub enum Step {
     Refused(usize),
 }
 
+// What a field may hold, as the number that it spells: that can be 99,999, more than a table's cell takes.
+const WIDTH_MOST: usize = rules::WIDTH_MOST as usize;
+
+const GUARD_MOST: usize = rules::GUARD_MOST as usize;
+
+const START_MOST: usize = rules::START_MOST as usize;
+
 // A number that is not 1 to `most`.
 fn out_of_range(v: usize, most: usize) -> bool
     ensures { λ r. ⌜ r ≡ outside 1 most v ⌝ }
@@ -49,11 +56,11 @@ pub fn path_step(
     };
     let key = labels::label_key(text, place, e);
     let i = labels::find(keys, k, key);
-    let bad = out_of_range(width, rules::WIDTH_MOST as usize);
+    let bad_width = out_of_range(width, WIDTH_MOST);
     if i < k {
         return Step::Refused(rules::REFUSED_LABEL_TWICE);
     }
-    if bad {
+    if bad_width {
         return Step::Refused(rules::REFUSED_WIDTH);
     }
     labels::put_row(labels, k, text, place, e);
@@ -62,6 +69,7 @@ pub fn path_step(
     Step::On(next)
 }
 
+// Two labels and a number: a label, and then a line like a path's.
 pub fn guard_line(text: &[u8], place: usize) -> GuardLine
     requires { ⌜ place ≤ length (now text) ⌝ }
     ensures { λ r. ⌜ GuardLineIs (now (text .entry)) place r ⌝ }
@@ -104,7 +112,7 @@ pub fn guard_step(text: &[u8], place: usize, n: usize, keys: &[usize], guards: &
     if given != rules::NO_CONFLICT {
         return Step::Refused(rules::REFUSED_PAIR_TWICE);
     }
-    if (rules::GUARD_MOST as usize) < guard {
+    if GUARD_MOST < guard {
         return Step::Refused(rules::REFUSED_GUARD);
     }
     guards[rules::PATHS * i + j] = guard as u8;
@@ -129,11 +137,11 @@ pub fn start_step(
         return Step::Refused(rules::REFUSED_FORM);
     };
     let key = labels::label_key(text, place, e);
-    let bad = out_of_range(start, rules::START_MOST as usize);
+    let bad_start = out_of_range(start, START_MOST);
     if keys[k] != key {
         return Step::Refused(rules::REFUSED_LABEL_UNKNOWN);
     }
-    if bad {
+    if bad_start {
         return Step::Refused(rules::REFUSED_START);
     }
     starts[k] = start as u16;

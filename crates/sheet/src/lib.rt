@@ -16,11 +16,11 @@ pub fn read(
     ensures { λ r. ⌜ left r (now (labels .exit), lend (now (widths .exit)) (now (guards .exit)), now (starts .exit))
         ≡ reading (now (text .entry)) (now (labels .entry)) (lend (now (widths .entry)) (now (guards .entry))) (now (starts .entry)) ⌝ }
 {
-    let fault = sheet_tables::sheet_sizes(labels, widths, guards, starts);
-    if fault.number != 0 {
+    let sizes = sheet_tables::sheet_sizes(labels, widths, guards, starts);
+    if sizes.number != 0 {
         return SheetRead {
-            number: fault.number,
-            place: fault.place,
+            number: sizes.number,
+            place: sizes.place,
             n: 0,
         };
     }

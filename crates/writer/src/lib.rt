@@ -68,7 +68,8 @@ pub fn sheet_length(n: usize, labels: &[u8], widths: &[u16], guards: &[u8], star
 {
     let m = sheet_tables::pair_count(n, guards);
     let paths = spelling::count_line_length(&text::PATHS_WORD, n) + paths_length(n, labels, widths);
-    let pairs = spelling::count_line_length(&text::GUARDS_WORD, m) + guards_length(n, labels, guards);
+    let pairs = spelling::count_line_length(&text::GUARDS_WORD, m)
+        + guards_length(n, labels, guards);
     paths + pairs + starts_length(n, labels, starts)
 }
 

@@ -106,9 +106,6 @@ returns-5 c =
           guard-twice (a .n) labels (now (a .guards)) (drop (a .place) s) (part s (a .place) (g .0)) (part s (g .1 .0) (g .1 .1 .0)) (g .1 .1 .1 .0) (drop (g .1 .1 .1 .1 .0) s) (at-e (c .before .before .before .before .before .before .before .before .before .before) .0) (c .before .before .before .before .before .before .find .result) (c .before .before .before .before .before .find2 .result) (first-found (c .before .before .before .before .before) labels keyed) (second-found (c .before .before .before .before .before) labels keyed) (c .before .before .before .before .if1 .left) (c .before .before .before .if2 .left) (c .before .before .if3 .left) (c .if4 .taken),
     )
 
-cast-if5 : tie.Need-cast-if5
-cast-if5 c = search needs
-
 returns-6 : tie.Need-returns-6
 returns-6 c =
     let a = c .before .before .before .before .before .before .before .before .before .before .before .before .before .before .before .before .before .args in
@@ -175,7 +172,6 @@ guard-step-spec =
     add-given
     slice-read-given
     returns-5
-    cast-if5
     returns-6
     cast-guards
     mul-guards

@@ -48,9 +48,6 @@ label-key-requires c κs = omega (arith, at-e (c .before))
 find-requires : tie.Need-find-requires
 find-requires c κs = search needs
 
-cast-out-of-range : tie.Need-cast-out-of-range
-cast-out-of-range c = search needs
-
 out-of-range-requires : tie.Need-out-of-range-requires
 out-of-range-requires c κs = search needs
 
@@ -123,7 +120,6 @@ path-step-spec =
     returns
     label-key-requires
     find-requires
-    cast-out-of-range
     out-of-range-requires
     same-length
     returns-2

@@ -47,9 +47,6 @@ returns c =
 label-key-requires : tie.Need-label-key-requires
 label-key-requires c κs = omega (arith, at-e (c .before))
 
-cast-out-of-range : tie.Need-cast-out-of-range
-cast-out-of-range c = search needs
-
 out-of-range-requires : tie.Need-out-of-range-requires
 out-of-range-requires c κs = search needs
 
@@ -114,7 +111,6 @@ start-step-spec =
     enum-told
     returns
     label-key-requires
-    cast-out-of-range
     out-of-range-requires
     mul-if1
     shared-slice-read-if1
