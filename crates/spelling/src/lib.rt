@@ -8,7 +8,7 @@ ghost use Rattle.rules.specs.Writing.{labelOf, countText, pathText, guardText};
 ghost use Rattle.spelling.specs.Says.{Wrote};
 
 // How many digits a number has.
-pub fn number_length(v: usize) -> usize
+fn number_length(v: usize) -> usize
     requires { ⌜ v < 100000 ⌝ }
     ensures { λ r. ⌜ r ≡ length (numeral v) ⌝ }
 {
@@ -27,11 +27,19 @@ pub fn number_length(v: usize) -> usize
     5
 }
 
+// The length of a line's last field: a space, a number and the line feed.
+fn last_length(v: usize) -> usize
+    requires { ⌜ v < 100000 ⌝ }
+    ensures { λ r. ⌜ (r ≡ length (numeral v) + 2) × (r ≤ 7) ⌝ }
+{
+    number_length(v) + 2
+}
+
 pub fn count_line_length(w: &[u8], m: usize) -> usize
     requires { ⌜ (m < 100000) × (length (now w) ≤ 100) ⌝ }
     ensures { λ r. ⌜ r ≡ length (countText (now (w .entry)) m) ⌝ }
 {
-    w.len() + number_length(m) + 2
+    w.len() + last_length(m)
 }
 
 pub fn path_line_length(labels: &[u8], table: &[u16], k: usize) -> usize
@@ -39,7 +47,7 @@ pub fn path_line_length(labels: &[u8], table: &[u16], k: usize) -> usize
     ensures { λ r. ⌜ (r ≡ length (pathText (now (labels .entry)) (now (table .entry)) k)) × (r ≤ 15) ⌝ }
 {
     let v = table[k] as usize;
-    labels::label_length(labels, k) + number_length(v) + 2
+    labels::label_length(labels, k) + last_length(v)
 }
 
 // Puts one byte into a text, and answers the place after it.
@@ -135,8 +143,8 @@ pub fn guard_line_length(labels: &[u8], guards: &[u8], i: usize, j: usize) -> us
     }
     labels::label_length(labels, i)
         + labels::label_length(labels, j)
-        + number_length(guard as usize)
-        + 3
+        + last_length(guard as usize)
+        + 1
 }
 
 // Puts the line of paths i and j, "the earlier path first", where they have one.
