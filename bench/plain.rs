@@ -1,4 +1,6 @@
-// The plan program in plain Rust, by the same rules: look-back packing, sides by a walk, labels searched one by one. Only for the speed table.
+//! The plan program in plain Rust, by the same rules: packing looks back, sides are found by a walk,
+//! labels are searched one by one. Only for the speed table.
+
 mod sheet;
 
 use std::io::{Read, Write};
@@ -15,7 +17,13 @@ impl Net<'_> {
 
     // The lowest start of path k after those placed.
     fn lowest(&self, placed: &[usize], starts: &[u16; 128], k: usize) -> u16 {
-        let asked = |&j: &usize| if self.guard(k, j) == 255 { 1 } else { starts[j] + self.t.widths[j] + self.guard(k, j) as u16 };
+        let asked = |&j: &usize| {
+            if self.guard(k, j) == 255 {
+                1
+            } else {
+                starts[j] + self.t.widths[j] + self.guard(k, j) as u16
+            }
+        };
         placed.iter().map(asked).max().unwrap_or(1).max(1)
     }
 
@@ -58,7 +66,10 @@ impl Net<'_> {
     fn greedy(&self) -> Vec<usize> {
         let (mut order, mut starts) = (Vec::new(), [0u16; 128]);
         while order.len() < self.n {
-            let next = (0..self.n).filter(|k| !order.contains(k)).min_by_key(|&k| (self.lowest(&order, &starts, k), k)).unwrap();
+            let next = (0..self.n)
+                .filter(|k| !order.contains(k))
+                .min_by_key(|&k| (self.lowest(&order, &starts, k), k))
+                .unwrap();
             starts[next] = self.lowest(&order, &starts, next);
             order.push(next);
         }

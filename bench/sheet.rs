@@ -1,5 +1,7 @@
-// A plain reader and writer of the sheet in Rust, by the same rules: what the library's are held against. Labels are searched one by one.
+//! A plain reader and writer of the sheet in Rust, by the same rules: what the library's are held
+//! against. Labels are searched one by one.
 
+#[derive(PartialEq)]
 pub struct Tables {
     pub n: usize,
     pub labels: [u8; 1024],
@@ -28,7 +30,7 @@ struct Reader<'a> {
     line: usize,
 }
 
-type Refused = (usize, usize);
+pub type Refused = (usize, usize);
 
 impl<'a> Reader<'a> {
     // The fields of the next line, or 11 where its form is wrong.
@@ -58,7 +60,9 @@ impl<'a> Reader<'a> {
     }
 
     fn number(&self, field: &[u8]) -> Result<usize, Refused> {
-        let right = (1..=5).contains(&field.len()) && field.iter().all(u8::is_ascii_digit) && (field.len() == 1 || field[0] != b'0');
+        let right = (1..=5).contains(&field.len())
+            && field.iter().all(u8::is_ascii_digit)
+            && (field.len() == 1 || field[0] != b'0');
         if right {
             Ok(field.iter().fold(0, |v, b| 10 * v + (b - b'0') as usize))
         } else {
@@ -180,7 +184,10 @@ fn test(t: &Tables) -> Result<(), Refused> {
     let right = |b: &u8| b.is_ascii_digit() || b.is_ascii_uppercase() || *b == b'-';
     for k in 0..n {
         let label = t.label(k);
-        if label.is_empty() || !label.iter().all(right) || t.labels[8 * k + label.len()..8 * k + 8].iter().any(|&b| b != 0) {
+        if label.is_empty()
+            || !label.iter().all(right)
+            || t.labels[8 * k + label.len()..8 * k + 8].iter().any(|&b| b != 0)
+        {
             return Err((11, k));
         }
     }

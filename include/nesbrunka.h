@@ -2,8 +2,7 @@
  * Nesbrunka: frequency slots for lightpaths, over lent tables.
  *
  * Tables. Every table has one fixed size, whatever n is; n, the number of paths, is 1 to 128, and
- * paths are numbered from 0. A table is passed as a pointer and then its number of cells, and a
- * length that is not the table's own is refused with 2.
+ * paths are numbered from 0.
  *
  *   widths   128 numbers of 16 bits    each 1 to 64 slots
  *   guards   16,384 bytes              the cell of i and j is 128 * i + j: 0 to 32 is a conflict
@@ -16,35 +15,23 @@
  * Cells of index n or more are never tested, and calls other than nesbrunka_read leave them
  * unchanged.
  *
- * Numbers returned, in `number`; `place` says where.
+ * Pointers and lengths. A table is passed as a pointer and then its number of cells (not bytes:
+ * 128 for widths), and the call believes both.
  *
- *   0   done                                                              place 0
- *   1   n not 1 to 128; over 2,000 guard lines; starts count not n        line, or 0
- *   2   a lent table is not of its size                                   0
- *   3   width not 1 to 64                                                 path or line
- *   4   guard cell not 0 to 32 or 255, diagonal not 255; in a sheet,
- *       guard over 32                                                     cell or line
- *   5   first cell with i < j unequal to its mirror                       cell
- *   6   order entry n or more, or seen earlier                            position
- *   7   start not 1 to 16,384                                             path or line
- *   8   first conflicting pair, i < j, too close                          cell
- *   9   no two sides                                                      0
- *   10  rounds over 10,000                                                0
- *   11  wrong form of a line; in the writer, of a label                   line or path
- *   12  label twice                                                       later line or path
- *   13  guard label unknown or paired with itself; starts label not the
- *       path's                                                            line
- *   14  pair given twice                                                  line
- *   15  floor list empty, over 8, or entry out of range, repeated or not
- *       in conflict with an earlier one                                   position, or 0
- *   16  written sheet longer than the lent text                           0
+ *   - No pointer may be NULL, whatever its length. A length of 0 needs a valid pointer too: to any
+ *     object of the right type.
+ *   - A length that is not the table's own is refused with NESBRUNKA_REFUSED_SIZE, before anything
+ *     is read. A text may have any length; a floor's list that is empty or too long is refused
+ *     with NESBRUNKA_REFUSED_LIST.
+ *   - A table that a call may write must not overlap any other that it is lent. Tables that are
+ *     only read may be the same.
+ *   - The library keeps no state and allocates nothing, and needs nothing but memset. Calls on
+ *     different tables may run at the same time.
  *
- * A refusal, that is a number other than 0, leaves every lent table unchanged, except that
- * nesbrunka_read's refusals other than 2 leave its four tables cleared: widths and starts 0,
- * guards 255, labels 0. Other numbers in a refused answer are 0.
- *
- * Tables that one call may write must not overlap each other or what it reads. The library keeps
- * no state and allocates nothing; calls on different tables may run at the same time.
+ * Answers. `number` is NESBRUNKA_DONE or the number of a refusal, `place` says where. A refusal
+ * leaves every lent table unchanged, except that nesbrunka_read's refusals other than
+ * NESBRUNKA_REFUSED_SIZE leave its four tables cleared: widths and starts 0, guards 255, labels 0.
+ * Other numbers in a refused answer are 0. Each call says below what it tests, in its order.
  */
 #ifndef NESBRUNKA_H
 #define NESBRUNKA_H
@@ -52,16 +39,72 @@
 #include <stddef.h>
 #include <stdint.h>
 
+#define NESBRUNKA_VERSION "0.9.0"
+#define NESBRUNKA_VERSION_MAJOR 0
+#define NESBRUNKA_VERSION_MINOR 9
+#define NESBRUNKA_VERSION_PATCH 0
+
 #ifdef __cplusplus
 extern "C" {
 #endif
 
+/* Sizes of tables. */
 enum {
-    NESBRUNKA_PATHS = 128,       /* cells of widths, starts and orders */
-    NESBRUNKA_CELLS = 16384,     /* cells of guards */
-    NESBRUNKA_LABELS = 1024,     /* bytes of labels */
-    NESBRUNKA_NO_CONFLICT = 255, /* in a guard cell */
-    NESBRUNKA_SHEET = 45489      /* bytes of the longest sheet */
+    NESBRUNKA_PATHS = 128,   /* cells of widths, starts and orders; the most paths */
+    NESBRUNKA_CELLS = 16384, /* cells of guards */
+    NESBRUNKA_LABEL = 8,     /* bytes of a label */
+    NESBRUNKA_LABELS = 1024  /* bytes of all labels */
+};
+
+/* Limits of what a cell may hold and a call may be given. */
+enum {
+    NESBRUNKA_WIDTH_MOST = 64,     /* slots of the widest path */
+    NESBRUNKA_GUARD_MOST = 32,     /* slots of the largest guard */
+    NESBRUNKA_NO_CONFLICT = 255,   /* the guard cell of two paths that are not in conflict */
+    NESBRUNKA_START_MOST = 16384,  /* the highest start */
+    NESBRUNKA_ROUNDS_MOST = 10000, /* rounds of planning and improving */
+    NESBRUNKA_LIST_MOST = 8,       /* paths in a floor's list */
+    NESBRUNKA_PAIRS_MOST = 2000,   /* conflicting pairs in a sheet */
+    NESBRUNKA_SHEET_MOST = 45489   /* bytes of the longest sheet */
+};
+
+/* Numbers returned. In each comment: when it is given, and what the place is. */
+enum {
+    /* done; 0 */
+    NESBRUNKA_DONE = 0,
+    /* n not 1 to 128; over 2,000 pairs; starts count not n; line, or 0 */
+    NESBRUNKA_REFUSED_COUNT = 1,
+    /* a lent table is not of its size; 0 */
+    NESBRUNKA_REFUSED_SIZE = 2,
+    /* width not 1 to 64; path or line */
+    NESBRUNKA_REFUSED_WIDTH = 3,
+    /* guard cell not 0 to 32 or 255, diagonal not 255, in a sheet over 32; cell or line */
+    NESBRUNKA_REFUSED_GUARD = 4,
+    /* first cell with i < j unequal to its mirror; cell */
+    NESBRUNKA_REFUSED_MIRROR = 5,
+    /* order entry n or more, or seen earlier; position */
+    NESBRUNKA_REFUSED_ENTRY = 6,
+    /* start not 1 to 16,384; path or line */
+    NESBRUNKA_REFUSED_START = 7,
+    /* first conflicting pair, i < j, too close; cell */
+    NESBRUNKA_REFUSED_CLASH = 8,
+    /* no two sides; 0 */
+    NESBRUNKA_REFUSED_NO_SIDES = 9,
+    /* rounds over 10,000; 0 */
+    NESBRUNKA_REFUSED_ROUNDS = 10,
+    /* wrong form of a line, in the writer of a label; line or path */
+    NESBRUNKA_REFUSED_FORM = 11,
+    /* label twice; later line or path */
+    NESBRUNKA_REFUSED_LABEL_TWICE = 12,
+    /* guard label unknown or paired with itself, starts label not the path's; line */
+    NESBRUNKA_REFUSED_LABEL_UNKNOWN = 13,
+    /* pair given twice; line */
+    NESBRUNKA_REFUSED_PAIR_TWICE = 14,
+    /* floor list empty, over 8, or entry out of range, repeated or not in conflict with an
+       earlier one; position, or 0 for the length */
+    NESBRUNKA_REFUSED_LIST = 15,
+    /* written sheet longer than the lent text; 0 */
+    NESBRUNKA_REFUSED_ROOM = 16
 };
 
 typedef struct {
@@ -181,7 +224,7 @@ nesbrunka_sheet_read nesbrunka_read(const uint8_t *text, size_t text_length,
                                     uint16_t *starts, size_t starts_length);
 
 /* Writes a sheet into a lent text of any length, with the starts if any of the n is not zero.
-   Tests 2, 1 for n, 3, 4, 5, 11, 12, 1 for guard lines, 7, 16. Leaves the text past the sheet's
+   Tests 2, 1 for n, 3, 4, 5, 11, 12, 1 for pairs, 7, 16. Leaves the text past the sheet's
    length unchanged. */
 nesbrunka_sheet_written nesbrunka_write(size_t n,
                                         const uint8_t *labels, size_t labels_length,

@@ -1,54 +1,70 @@
 /* Reads a sheet from standard input, plans it with seed 1 and 1,000 rounds, judges the plan and
    prints the sheet with its starts. Refused, it prints the number and the line, as the plan
-   program does. */
+   program does. The exit status is 0 for a plan, 1 for a refusal, 2 where something else went
+   wrong: what was printed is then not to be used. */
 #include <stdio.h>
 
 #include "nesbrunka.h"
 
-static uint8_t text[NESBRUNKA_SHEET + 20000];
+enum { PLANNED = 0, REFUSED = 1, TROUBLE = 2 };
+
+/* One byte more than the longest sheet: a longer text is refused by these bytes alone. */
+static uint8_t text[NESBRUNKA_SHEET_MOST + 1];
 static uint8_t labels[NESBRUNKA_LABELS];
 static uint16_t widths[NESBRUNKA_PATHS];
 static uint8_t guards[NESBRUNKA_CELLS];
 static uint16_t starts[NESBRUNKA_PATHS];
 static uint8_t order[NESBRUNKA_PATHS];
 
+/* What a sheet that was read cannot meet. */
+static int unexpected(const char *call, size_t number, size_t place)
+{
+    fprintf(stderr, "%s: refused %zu at %zu\n", call, number, place);
+    return TROUBLE;
+}
+
+/* What is printed may stand in a buffer still: it is written when this has answered 0. */
+static int printed(int status)
+{
+    int failed = ferror(stdout);
+    if (fclose(stdout) != 0 || failed) {
+        perror("standard output");
+        return TROUBLE;
+    }
+    return status;
+}
+
 int main(void)
 {
-    /* A text longer than any sheet is refused by its front part alone: the rest is not needed. */
     size_t length = fread(text, 1, sizeof text, stdin);
     if (ferror(stdin)) {
         perror("standard input");
-        return 2;
+        return TROUBLE;
     }
     nesbrunka_sheet_read sheet =
         nesbrunka_read(text, length, labels, NESBRUNKA_LABELS, widths, NESBRUNKA_PATHS,
                        guards, NESBRUNKA_CELLS, starts, NESBRUNKA_PATHS);
-    if (sheet.number != 0) {
+    if (sheet.number != NESBRUNKA_DONE) {
         printf("refused %zu line %zu\n", sheet.number, sheet.place);
-        return 0;
+        return printed(REFUSED);
     }
     size_t n = sheet.n;
     nesbrunka_planned plan =
         nesbrunka_plan(n, widths, NESBRUNKA_PATHS, guards, NESBRUNKA_CELLS,
                        order, NESBRUNKA_PATHS, starts, NESBRUNKA_PATHS, 1, 1000);
-    if (plan.number != 0) {
-        fprintf(stderr, "plan refused %zu at %zu\n", plan.number, plan.place);
-        return 1;
-    }
+    if (plan.number != NESBRUNKA_DONE)
+        return unexpected("plan", plan.number, plan.place);
     nesbrunka_judged judged =
         nesbrunka_judge(n, widths, NESBRUNKA_PATHS, guards, NESBRUNKA_CELLS,
                         starts, NESBRUNKA_PATHS);
-    if (judged.number != 0) {
-        fprintf(stderr, "plan not valid: %zu at %zu\n", judged.number, judged.place);
-        return 1;
-    }
-    fprintf(stderr, "%zu paths, highest slot %zu, %zu swaps kept\n", n, plan.highest, plan.kept);
+    if (judged.number != NESBRUNKA_DONE)
+        return unexpected("judge", judged.number, judged.place);
     nesbrunka_sheet_written written =
         nesbrunka_write(n, labels, NESBRUNKA_LABELS, widths, NESBRUNKA_PATHS,
                         guards, NESBRUNKA_CELLS, starts, NESBRUNKA_PATHS, text, sizeof text);
-    if (written.number != 0) {
-        fprintf(stderr, "write refused %zu at %zu\n", written.number, written.place);
-        return 1;
-    }
-    return fwrite(text, 1, written.length, stdout) == written.length ? 0 : 2;
+    if (written.number != NESBRUNKA_DONE)
+        return unexpected("write", written.number, written.place);
+    fwrite(text, 1, written.length, stdout);
+    fprintf(stderr, "%zu paths, highest slot %zu, %zu swaps kept\n", n, plan.highest, plan.kept);
+    return printed(PLANNED);
 }

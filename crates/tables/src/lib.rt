@@ -130,7 +130,7 @@ fn guard_search(n: usize, i: usize, guards: &[u8]) -> usize
 {
     let mut j: usize = 0;
     while j < n {
-        let g = guards[128 * i + j];
+        let g = guards[rules::PATHS * i + j];
         if bad_guard(i, j, g) {
             return j;
         }
@@ -170,7 +170,7 @@ fn row_top(n: usize, i: usize, guards: &[u8]) -> u8
     let mut top: u8 = 0;
     let mut j: usize = 0;
     while j < n {
-        let g = guards[128 * i + j];
+        let g = guards[rules::PATHS * i + j];
         let x = above(g);
         top = larger(top, x);
         j += 1;
@@ -184,7 +184,7 @@ fn guard_row(n: usize, i: usize, guards: &[u8]) -> usize
     ensures { λ r. ⌜ r ≡ first (badGuard (now (guards .entry)) i) n ⌝ }
 {
     let t = row_top(n, i, guards);
-    let d = guards[128 * i + i];
+    let d = guards[rules::PATHS * i + i];
     if t <= 33 {
         if d == rules::NO_CONFLICT {
             return n;
@@ -200,7 +200,7 @@ fn mirror_search(n: usize, i: usize, guards: &[u8]) -> usize
 {
     let mut j: usize = i + 1;
     while j < n {
-        if guards[128 * i + j] != guards[128 * j + i] {
+        if guards[rules::PATHS * i + j] != guards[rules::PATHS * j + i] {
             return j;
         }
         j += 1;
@@ -223,8 +223,8 @@ fn row_apart(n: usize, i: usize, guards: &[u8]) -> u8
     let mut most: u8 = 0;
     let mut j: usize = i + 1;
     while j < n {
-        let a = guards[128 * i + j];
-        let b = guards[128 * j + i];
+        let a = guards[rules::PATHS * i + j];
+        let b = guards[rules::PATHS * j + i];
         let x = apart(a, b);
         most = larger(most, x);
         j += 1;
@@ -264,7 +264,7 @@ fn square_fault(n: usize, guards: &[u8], mirror: bool, number: usize) -> Fault
     while i < n {
         let j = row_fault(n, i, guards, mirror);
         if j < n {
-            return refused(number, 128 * i + j);
+            return refused(number, rules::PATHS * i + j);
         }
         i += 1;
     }
@@ -276,7 +276,7 @@ pub fn order_fault(n: usize, order: &[u8]) -> Fault
     requires { ⌜ (n ≤ 128) × (length (now order) ≡ 128) ⌝ }
     ensures { λ r. ⌜ r ≡ orderFault n (now (order .entry)) ⌝ }
 {
-    let mut seen = [0u8; 128];
+    let mut seen = [0u8; rules::PATHS];
     let mut p: usize = 0;
     while p < n {
         let k = order[p] as usize;

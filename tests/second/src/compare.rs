@@ -23,28 +23,23 @@ pub enum Call {
     Program,
 }
 
-pub const CALLS: [(Call, &str, bool); 11] = [
-    (Call::Judge, "judge", cfg!(has_judge)),
-    (Call::Pack, "pack", cfg!(has_pack)),
-    (Call::Press, "press", cfg!(has_press)),
-    (Call::TwoSides, "two_sides", cfg!(has_two_sides)),
-    (Call::Plan, "plan", cfg!(has_plan)),
-    (Call::Improve, "improve", cfg!(has_improve)),
-    (Call::Better, "better", cfg!(has_better)),
-    (Call::Floor, "floor", cfg!(has_floor)),
-    (Call::Read, "read", cfg!(has_read)),
-    (Call::Write, "write", cfg!(has_write)),
-    (Call::Program, "program", true),
+pub const CALLS: [(Call, &str); 11] = [
+    (Call::Judge, "judge"),
+    (Call::Pack, "pack"),
+    (Call::Press, "press"),
+    (Call::TwoSides, "two_sides"),
+    (Call::Plan, "plan"),
+    (Call::Improve, "improve"),
+    (Call::Better, "better"),
+    (Call::Floor, "floor"),
+    (Call::Read, "read"),
+    (Call::Write, "write"),
+    (Call::Program, "program"),
 ];
 
 impl Call {
     pub fn name(self) -> &'static str {
         CALLS[self as usize].1
-    }
-
-    /// Whether the archive holds it.
-    pub fn linked(self) -> bool {
-        CALLS[self as usize].2
     }
 }
 
@@ -301,7 +296,7 @@ pub fn judge(t: &mut Tally, c: &Case) -> Option<Outcome> {
         return None;
     }
     let mut l = Lending::new(c);
-    let got = ffi::judge(c.n, &mut l.widths, &mut l.guards, &mut l.starts)?;
+    let got = ffi::judge(c.n, &mut l.widths, &mut l.guards, &mut l.starts);
     let want = calls::judge(c.n, &c.widths, &c.guards, &c.starts);
     Some(l.settle(t, Call::Judge, c, got, want))
 }
@@ -311,7 +306,7 @@ pub fn pack(t: &mut Tally, c: &Case) -> Option<Outcome> {
         return None;
     }
     let mut l = Lending::new(c);
-    let got = ffi::pack(c.n, &mut l.widths, &mut l.guards, &mut l.order, &mut l.starts)?;
+    let got = ffi::pack(c.n, &mut l.widths, &mut l.guards, &mut l.order, &mut l.starts);
     let want = calls::pack(c.n, &c.widths, &c.guards, &c.order, &mut l.own.starts);
     Some(l.settle(t, Call::Pack, c, got, want))
 }
@@ -321,7 +316,7 @@ pub fn press(t: &mut Tally, c: &Case) -> Option<Outcome> {
         return None;
     }
     let mut l = Lending::new(c);
-    let got = ffi::press(c.n, &mut l.widths, &mut l.guards, &mut l.starts)?;
+    let got = ffi::press(c.n, &mut l.widths, &mut l.guards, &mut l.starts);
     let want = calls::press(c.n, &c.widths, &c.guards, &mut l.own.starts);
     Some(l.settle(t, Call::Press, c, got, want))
 }
@@ -331,7 +326,7 @@ pub fn two_sides(t: &mut Tally, c: &Case) -> Option<Outcome> {
         return None;
     }
     let mut l = Lending::new(c);
-    let got = ffi::two_sides(c.n, &mut l.widths, &mut l.guards, &mut l.order)?;
+    let got = ffi::two_sides(c.n, &mut l.widths, &mut l.guards, &mut l.order);
     let want = calls::two_sides(c.n, &c.widths, &c.guards, &mut l.own.order);
     Some(l.settle(t, Call::TwoSides, c, got, want))
 }
@@ -342,7 +337,7 @@ pub fn plan(t: &mut Tally, c: &Case) -> Option<Outcome> {
     }
     let mut l = Lending::new(c);
     let (order, starts) = (&mut l.order, &mut l.starts);
-    let got = ffi::plan(c.n, &mut l.widths, &mut l.guards, order, starts, c.seed, c.rounds)?;
+    let got = ffi::plan(c.n, &mut l.widths, &mut l.guards, order, starts, c.seed, c.rounds);
     let (order, starts) = (&mut l.own.order, &mut l.own.starts);
     let want = calls::plan(c.n, &c.widths, &c.guards, order, starts, c.seed, c.rounds);
     Some(l.settle(t, Call::Plan, c, got, want))
@@ -354,7 +349,7 @@ pub fn improve(t: &mut Tally, c: &Case) -> Option<Outcome> {
     }
     let mut l = Lending::new(c);
     let (order, starts) = (&mut l.order, &mut l.starts);
-    let got = ffi::improve(c.n, &mut l.widths, &mut l.guards, order, starts, c.seed, c.rounds)?;
+    let got = ffi::improve(c.n, &mut l.widths, &mut l.guards, order, starts, c.seed, c.rounds);
     let (order, starts) = (&mut l.own.order, &mut l.own.starts);
     let want = calls::improve(c.n, &c.widths, &c.guards, order, starts, c.seed, c.rounds);
     Some(l.settle(t, Call::Improve, c, got, want))
@@ -366,7 +361,7 @@ pub fn better(t: &mut Tally, c: &Case) -> Option<Outcome> {
     }
     let mut l = Lending::new(c);
     let mut second = Lent::new(&c.second);
-    let got = ffi::better(c.n, &mut l.widths, &mut l.guards, &mut l.order, &mut second)?;
+    let got = ffi::better(c.n, &mut l.widths, &mut l.guards, &mut l.order, &mut second);
     let which = calls::better(c.n, &c.widths, &c.guards, &c.order, &c.second);
     let want = Answer { number: which, place: 0, more: [0, 0] };
     Some(settle_with(t, Call::Better, c, l, ("second", &second, &c.second), got, want))
@@ -378,7 +373,7 @@ pub fn floor(t: &mut Tally, c: &Case) -> Option<Outcome> {
     }
     let mut l = Lending::new(c);
     let mut list = Lent::new(&c.list);
-    let got = ffi::floor(c.n, &mut l.widths, &mut l.guards, &mut list)?;
+    let got = ffi::floor(c.n, &mut l.widths, &mut l.guards, &mut list);
     let want = calls::floor(c.n, &c.widths, &c.guards, &c.list);
     Some(settle_with(t, Call::Floor, c, l, ("list", &list, &c.list), got, want))
 }
@@ -404,7 +399,7 @@ pub fn read(t: &mut Tally, c: &Case) -> Option<(Answer, Case)> {
     let (mut text, mut labels) = (Lent::new(&c.text), Lent::new(&c.labels));
     let (mut widths, mut guards) = (Lent::new(&c.widths), Lent::new(&c.guards));
     let mut starts = Lent::new(&c.starts);
-    let got = ffi::read(&mut text, &mut labels, &mut widths, &mut guards, &mut starts)?;
+    let got = ffi::read(&mut text, &mut labels, &mut widths, &mut guards, &mut starts);
     let mut own = c.clone();
     let want =
         sheet::read(&c.text, &mut own.labels, &mut own.widths, &mut own.guards, &mut own.starts);
@@ -431,7 +426,7 @@ pub fn write(t: &mut Tally, c: &Case) -> Option<(Answer, Vec<u8>)> {
     let (mut text, mut labels) = (Lent::new(&c.text), Lent::new(&c.labels));
     let (mut widths, mut guards) = (Lent::new(&c.widths), Lent::new(&c.guards));
     let mut starts = Lent::new(&c.starts);
-    let got = ffi::write(c.n, &mut labels, &mut widths, &mut guards, &mut starts, &mut text)?;
+    let got = ffi::write(c.n, &mut labels, &mut widths, &mut guards, &mut starts, &mut text);
     let mut own = c.text.clone();
     let want = sheet::write(c.n, &c.labels, &c.widths, &c.guards, &c.starts, &mut own);
     let mut faults = Vec::new();

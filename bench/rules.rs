@@ -1,0 +1,126 @@
+//! The calls in plain Rust: what the library's are held against.
+
+use nesbrunka::{NO_CONFLICT, PATHS};
+
+use crate::networks::Network;
+
+pub type Starts = [u16; PATHS];
+pub type Order = [u8; PATHS];
+pub type Packer = fn(&Network, &Order, &mut Starts) -> usize;
+
+/// The tests of judging by plain scans, each from the lowest index: number and place.
+pub fn judge(net: &Network, starts: &Starts) -> (usize, usize) {
+    let n = net.n;
+    let guard = |i: usize, j: usize| net.guards[PATHS * i + j];
+    if !(1..=PATHS).contains(&n) {
+        return (1, 0);
+    }
+    if let Some(k) = net.widths[..n].iter().position(|width| !(1..=64).contains(width)) {
+        return (3, k);
+    }
+    let bad = |i, j| guard(i, j) != NO_CONFLICT && (i == j || guard(i, j) > 32);
+    if let Some(cell) = first_cell(n, |_| 0, bad) {
+        return (4, cell);
+    }
+    if let Some(cell) = first_cell(n, |i| i + 1, |i, j| guard(i, j) != guard(j, i)) {
+        return (5, cell);
+    }
+    if let Some(k) = starts[..n].iter().position(|start| !(1..=16384).contains(start)) {
+        return (7, k);
+    }
+    let below = |i: usize, j: usize| starts[i] + net.widths[i] + guard(i, j) as u16 <= starts[j];
+    let close = |i, j| guard(i, j) != NO_CONFLICT && !below(i, j) && !below(j, i);
+    first_cell(n, |i| i + 1, close).map_or((0, 0), |cell| (8, cell))
+}
+
+/// The first cell of the square, each row from some path on, of which something is so.
+fn first_cell(
+    n: usize, from: impl Fn(usize) -> usize, so: impl Fn(usize, usize) -> bool,
+) -> Option<usize> {
+    for i in 0..n {
+        for j in from(i)..n {
+            if so(i, j) {
+                return Some(PATHS * i + j);
+            }
+        }
+    }
+    None
+}
+
+/// Packing that looks back: for each path, over those earlier in the order. No tests.
+pub fn look_back(net: &Network, order: &Order, starts: &mut Starts) -> usize {
+    let mut highest = 0;
+    for p in 0..net.n {
+        let i = order[p] as usize;
+        let mut start = 1;
+        for &j in &order[..p] {
+            let j = j as usize;
+            let guard = net.guards[PATHS * i + j];
+            if guard != NO_CONFLICT {
+                let past = starts[j] + net.widths[j] + guard as u16;
+                if past > start {
+                    start = past;
+                }
+            }
+        }
+        starts[i] = start;
+        highest = highest.max(start + net.widths[i] - 1);
+    }
+    highest as usize
+}
+
+/// The library's own loop: each path that is placed raises the lowest starts of all. No tests.
+pub fn push(net: &Network, order: &Order, starts: &mut Starts) -> usize {
+    let n = net.n;
+    let mut need = [1u16; PATHS];
+    let mut highest = 0;
+    for &i in &order[..n] {
+        let i = i as usize;
+        let start = need[i];
+        let base = start + net.widths[i];
+        starts[i] = start;
+        highest = highest.max(base - 1);
+        let row = &net.guards[PATHS * i..PATHS * i + n];
+        for (lowest, &guard) in need[..n].iter_mut().zip(row) {
+            let asked = if guard == NO_CONFLICT { 0 } else { base + guard as u16 };
+            *lowest = (*lowest).max(asked);
+        }
+    }
+    highest as usize
+}
+
+/// Pressing: the standard library's sort, and packing that looks back. No tests.
+pub fn press(net: &Network, starts: &mut Starts) -> usize {
+    let mut order = [0; PATHS];
+    for (k, entry) in order[..net.n].iter_mut().enumerate() {
+        *entry = k as u8;
+    }
+    order[..net.n].sort_by_key(|&k| starts[k as usize]);
+    look_back(net, &order, starts)
+}
+
+/// What improving leaves: order, starts, highest slot, swaps kept.
+pub type Improved = (Order, Starts, usize, usize);
+
+/// The rounds of improving with seed 1, over either packing. No tests.
+pub fn improve(pack: Packer, net: &Network, order: &Order, rounds: usize) -> Improved {
+    let (mut order, mut starts, mut state, mut kept) = (*order, [0u16; PATHS], 1u32, 0);
+    let mut highest = pack(net, &order, &mut starts);
+    let mut draw = || {
+        state = state.wrapping_mul(1664525).wrapping_add(1013904223);
+        ((state >> 16) as usize * net.n) >> 16
+    };
+    for _ in 0..rounds {
+        let (a, b) = (draw(), draw());
+        order.swap(a, b);
+        let h = pack(net, &order, &mut starts);
+        if h < highest {
+            highest = h;
+            kept += 1;
+        } else {
+            order.swap(a, b);
+        }
+    }
+    pack(net, &order, &mut starts);
+    (order, starts, highest, kept)
+}

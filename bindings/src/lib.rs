@@ -1,0 +1,297 @@
+//! Frequency slots for lightpaths, over lent tables: the Nesbrunka library for Rust.
+//!
+//! Every table has one fixed size, whatever n, the number of paths, is (1 to 128); paths are
+//! numbered from 0. A slice of another length is refused, so that a call asks nothing of its
+//! caller beyond Rust's own rules.
+//!
+//! | table | cells | each |
+//! |---|---|---|
+//! | widths | [`PATHS`] | 1 to [`WIDTH_MOST`] slots |
+//! | guards | [`CELLS`] | the cell of i and j is 128i + j: 0 to [`GUARD_MOST`] is a conflict with that guard, [`NO_CONFLICT`] is none; the diagonal is none, the cells of i, j and j, i are equal |
+//! | starts | [`PATHS`] | 1 to [`START_MOST`]; 0 is no start |
+//! | order | [`PATHS`] | the first n hold each of 0 to n-1 once |
+//! | labels | [`LABELS`] | [`LABEL`] bytes a path, filled at the end with zero bytes |
+//!
+//! Each answer has a number, [`DONE`] or one of the refusals below, and its place; the other
+//! numbers of a refused answer are 0. A refusal leaves every table as it was, except that those
+//! of [`read`] other than [`REFUSED_SIZE`] leave its four tables cleared: widths and starts 0,
+//! guards 255, labels 0. Cells of index n or more are not tested, and calls other than [`read`]
+//! leave them as they are. The library keeps no state and allocates nothing.
+//!
+//! ```
+//! use nesbrunka::{plan, CELLS, DONE, NO_CONFLICT, PATHS};
+//!
+//! // Two paths of 3 and 5 slots, two empty slots between them.
+//! let mut widths = [0; PATHS];
+//! let mut guards = [NO_CONFLICT; CELLS];
+//! (widths[0], widths[1]) = (3, 5);
+//! (guards[1], guards[PATHS]) = (2, 2);
+//! let (mut order, mut starts) = ([0; PATHS], [0; PATHS]);
+//! let planned = plan(2, &widths, &guards, &mut order, &mut starts, 1, 1000);
+//! assert_eq!((planned.number, planned.highest), (DONE, 10));
+//! assert_eq!(starts[..2], [1, 6]);
+//! ```
+#![no_std]
+#![deny(missing_docs)]
+
+// A pointer and its length stay on one line.
+#[rustfmt::skip]
+pub mod sys;
+
+pub use sys::{Floored, Judged, Packed, Planned, SheetRead, SheetWritten, Sided};
+
+/// Cells of widths, of starts and of an order; the most paths.
+pub const PATHS: usize = 128;
+/// Cells of guards.
+pub const CELLS: usize = 16384;
+/// Bytes of a label.
+pub const LABEL: usize = 8;
+/// Bytes of all labels.
+pub const LABELS: usize = 1024;
+/// The widest path, in slots.
+pub const WIDTH_MOST: u16 = 64;
+/// The largest guard, in slots.
+pub const GUARD_MOST: u8 = 32;
+/// A guard cell of two paths that are not in conflict.
+pub const NO_CONFLICT: u8 = 255;
+/// The highest start.
+pub const START_MOST: u16 = 16384;
+/// The most rounds of planning and improving.
+pub const ROUNDS_MOST: usize = 10000;
+/// The most paths in a floor's list.
+pub const LIST_MOST: usize = 8;
+/// The most conflicting pairs in a sheet.
+pub const PAIRS_MOST: usize = 2000;
+/// Bytes of the longest sheet.
+pub const SHEET_MOST: usize = 45489;
+
+/// Done. Place 0.
+pub const DONE: usize = 0;
+/// n is not 1 to 128, there are over 2,000 pairs, or not n starts. Place: the line, or 0.
+pub const REFUSED_COUNT: usize = 1;
+/// A lent table is not of its size. Place 0.
+pub const REFUSED_SIZE: usize = 2;
+/// A width is not 1 to 64. Place: the path or line.
+pub const REFUSED_WIDTH: usize = 3;
+/// A guard is not 0 to 32 or 255, on the diagonal not 255; in a sheet, over 32. Place: the cell or
+/// line.
+pub const REFUSED_GUARD: usize = 4;
+/// A guard cell is unequal to its mirror. Place: the first such cell with i below j.
+pub const REFUSED_MIRROR: usize = 5;
+/// An entry of an order is n or more, or was seen earlier. Place: its position.
+pub const REFUSED_ENTRY: usize = 6;
+/// A start is not 1 to 16,384. Place: the path or line.
+pub const REFUSED_START: usize = 7;
+/// A conflicting pair is too close. Place: its cell with i below j.
+pub const REFUSED_CLASH: usize = 8;
+/// There are no two sides. Place 0.
+pub const REFUSED_NO_SIDES: usize = 9;
+/// Rounds are over 10,000. Place 0.
+pub const REFUSED_ROUNDS: usize = 10;
+/// A line has the wrong form; in the writer, a label. Place: the line or path.
+pub const REFUSED_FORM: usize = 11;
+/// A label is there twice. Place: the later line or path.
+pub const REFUSED_LABEL_TWICE: usize = 12;
+/// A guard's label is unknown or paired with itself, or a start's is not the path's. Place: the
+/// line.
+pub const REFUSED_LABEL_UNKNOWN: usize = 13;
+/// A pair is given twice. Place: the line.
+pub const REFUSED_PAIR_TWICE: usize = 14;
+/// A floor's list is empty or over 8, or an entry is out of range, repeated or not in conflict
+/// with an earlier one. Place: the position, or 0 for the length.
+pub const REFUSED_LIST: usize = 15;
+/// The written sheet is longer than the lent text. Place 0.
+pub const REFUSED_ROOM: usize = 16;
+
+/// Judges a plan: of each conflicting pair one starts above the other's end plus their guard.
+///
+/// Tests in this order: 2, 1, 3, 4, 5, 7, 8.
+#[inline]
+pub fn judge(n: usize, widths: &[u16], guards: &[u8], starts: &[u16]) -> Judged {
+    let (w, g, s) = (widths.as_ptr(), guards.as_ptr(), starts.as_ptr());
+    // SAFETY: each pointer and length are those of one slice, and nothing is written.
+    unsafe { sys::nesbrunka_judge(n, w, widths.len(), g, guards.len(), s, starts.len()) }
+}
+
+/// Packs an order into the first n starts: in that order, each start is the largest of 1 and
+/// end + guard + 1 over the conflicting paths earlier in it.
+///
+/// Tests in this order: 2, 1, 3, 4, 5, 6.
+#[inline]
+pub fn pack(n: usize, widths: &[u16], guards: &[u8], order: &[u8], starts: &mut [u16]) -> Packed {
+    let (w, g) = (widths.as_ptr(), guards.as_ptr());
+    let (o, s) = (order.as_ptr(), starts.as_mut_ptr());
+    // SAFETY: each pointer and length are those of one slice; the one written is borrowed alone.
+    unsafe {
+        sys::nesbrunka_pack(n, w, widths.len(), g, guards.len(), o, order.len(), s, starts.len())
+    }
+}
+
+/// Presses a valid plan: orders it by start, equal starts by number, and packs it into the first n
+/// starts.
+///
+/// Tests in this order: 2, 1, 3, 4, 5, 7, 8.
+#[inline]
+pub fn press(n: usize, widths: &[u16], guards: &[u8], starts: &mut [u16]) -> Packed {
+    let (w, g, s) = (widths.as_ptr(), guards.as_ptr(), starts.as_mut_ptr());
+    // SAFETY: each pointer and length are those of one slice; the one written is borrowed alone.
+    unsafe { sys::nesbrunka_press(n, w, widths.len(), g, guards.len(), s, starts.len()) }
+}
+
+/// The first n entries of the better of two orders, that part itself: of the one whose packing has
+/// the lower highest slot, of the first where they are equal.
+///
+/// Empty exactly when a packing of either would be refused.
+#[inline]
+pub fn better<'a>(
+    n: usize, widths: &[u16], guards: &[u8], first: &'a [u8], second: &'a [u8],
+) -> &'a [u8] {
+    let (w, g) = (widths.as_ptr(), guards.as_ptr());
+    let (f, s) = (first.as_ptr(), second.as_ptr());
+    // SAFETY: each pointer and length are those of one slice, and nothing is written.
+    let which = unsafe {
+        sys::nesbrunka_better(n, w, widths.len(), g, guards.len(), f, first.len(), s, second.len())
+    };
+    match which {
+        1 => &first[..n],
+        2 => &second[..n],
+        _ => &first[..0],
+    }
+}
+
+/// The two-sided order, into the first n entries of `order`: the low side by number, then the high
+/// side by number. Answers the size of the low side.
+///
+/// Tests in this order: 2, 1, 3, 4, 5, 9.
+#[inline]
+pub fn two_sides(n: usize, widths: &[u16], guards: &[u8], order: &mut [u8]) -> Sided {
+    let (w, g, o) = (widths.as_ptr(), guards.as_ptr(), order.as_mut_ptr());
+    // SAFETY: each pointer and length are those of one slice; the one written is borrowed alone.
+    unsafe { sys::nesbrunka_two_sides(n, w, widths.len(), g, guards.len(), o, order.len()) }
+}
+
+/// Plans: the two-sided order if there are sides, with no rounds run; otherwise the greedy order,
+/// improved. Writes the first n entries of the order and the first n starts; what stood there is
+/// not tested.
+///
+/// Tests in this order: 2, 1, 3, 4, 5, 10.
+#[inline]
+pub fn plan(
+    n: usize, widths: &[u16], guards: &[u8], order: &mut [u8], starts: &mut [u16], seed: u32,
+    rounds: usize,
+) -> Planned {
+    let (w, g) = (widths.as_ptr(), guards.as_ptr());
+    let (o, s) = (order.as_mut_ptr(), starts.as_mut_ptr());
+    // SAFETY: each pointer and length are those of one slice; those written are borrowed alone.
+    unsafe {
+        sys::nesbrunka_plan(
+            n,
+            w,
+            widths.len(),
+            g,
+            guards.len(),
+            o,
+            order.len(),
+            s,
+            starts.len(),
+            seed,
+            rounds,
+        )
+    }
+}
+
+/// Improves an order: each of 0 to 10,000 rounds draws two places, swaps them, packs, and keeps the
+/// swap only if the highest slot is strictly lower. Writes the first n entries of the order and
+/// the first n starts.
+///
+/// Tests in this order: 2, 1, 3, 4, 5, 6, 10.
+#[inline]
+pub fn improve(
+    n: usize, widths: &[u16], guards: &[u8], order: &mut [u8], starts: &mut [u16], seed: u32,
+    rounds: usize,
+) -> Planned {
+    let (w, g) = (widths.as_ptr(), guards.as_ptr());
+    let (o, s) = (order.as_mut_ptr(), starts.as_mut_ptr());
+    // SAFETY: each pointer and length are those of one slice; those written are borrowed alone.
+    unsafe {
+        sys::nesbrunka_improve(
+            n,
+            w,
+            widths.len(),
+            g,
+            guards.len(),
+            o,
+            order.len(),
+            s,
+            starts.len(),
+            seed,
+            rounds,
+        )
+    }
+}
+
+/// The floor of a list of 1 to 8 distinct paths, all in conflict with each other: no valid plan's
+/// highest slot is below it.
+///
+/// Tests in this order: 2, 1, 3, 4, 5, 15.
+#[inline]
+pub fn floor(n: usize, widths: &[u16], guards: &[u8], list: &[u8]) -> Floored {
+    let (w, g, l) = (widths.as_ptr(), guards.as_ptr(), list.as_ptr());
+    // SAFETY: each pointer and length are those of one slice, and nothing is written.
+    unsafe { sys::nesbrunka_floor(n, w, widths.len(), g, guards.len(), l, list.len()) }
+}
+
+/// Reads a sheet of any length into the four tables, all their cells: what the sheet says, and past
+/// n widths and starts 0, guards 255, labels 0. A sheet without a plan leaves all starts 0.
+///
+/// Tests 2 first, then gives the first line at fault.
+#[inline]
+pub fn read(
+    text: &[u8], labels: &mut [u8], widths: &mut [u16], guards: &mut [u8], starts: &mut [u16],
+) -> SheetRead {
+    let (t, l) = (text.as_ptr(), labels.as_mut_ptr());
+    let (w, g, s) = (widths.as_mut_ptr(), guards.as_mut_ptr(), starts.as_mut_ptr());
+    // SAFETY: each pointer and length are those of one slice; those written are borrowed alone.
+    unsafe {
+        sys::nesbrunka_read(
+            t,
+            text.len(),
+            l,
+            labels.len(),
+            w,
+            widths.len(),
+            g,
+            guards.len(),
+            s,
+            starts.len(),
+        )
+    }
+}
+
+/// Writes a sheet into the front of a text of any length, with the starts if any of the n is not
+/// zero.
+///
+/// Tests in this order: 2, 1 for n, 3, 4, 5, 11, 12, 1 for pairs, 7, 16.
+#[inline]
+pub fn write(
+    n: usize, labels: &[u8], widths: &[u16], guards: &[u8], starts: &[u16], text: &mut [u8],
+) -> SheetWritten {
+    let (l, w, g) = (labels.as_ptr(), widths.as_ptr(), guards.as_ptr());
+    let (s, t) = (starts.as_ptr(), text.as_mut_ptr());
+    // SAFETY: each pointer and length are those of one slice; the one written is borrowed alone.
+    unsafe {
+        sys::nesbrunka_write(
+            n,
+            l,
+            labels.len(),
+            w,
+            widths.len(),
+            g,
+            guards.len(),
+            s,
+            starts.len(),
+            t,
+            text.len(),
+        )
+    }
+}

@@ -1,0 +1,185 @@
+//! The library's C face as it is: each table is a pointer and then its number of cells, and an
+//! answer comes by value. The functions of the crate itself are these over slices.
+//!
+//! # Safety
+//!
+//! For each call: every pointer is valid for as many cells as its length says, for reads, and for
+//! writes where it is `*mut`; none is null, whatever its length; a table that the call may write
+//! overlaps no other. Nothing more is asked: every call tests what it is lent.
+
+/// What judging answers.
+#[repr(C)]
+#[derive(Clone, Copy, Debug, PartialEq, Eq)]
+pub struct Judged {
+    /// 0, or the number of the refusal.
+    pub number: usize,
+    /// Where.
+    pub place: usize,
+}
+
+/// What packing and pressing answer, beside the starts in their table.
+#[repr(C)]
+#[derive(Clone, Copy, Debug, PartialEq, Eq)]
+pub struct Packed {
+    /// 0, or the number of the refusal.
+    pub number: usize,
+    /// Where.
+    pub place: usize,
+    /// The highest slot.
+    pub highest: usize,
+}
+
+/// What the two-sided call answers, beside the order in its table.
+#[repr(C)]
+#[derive(Clone, Copy, Debug, PartialEq, Eq)]
+pub struct Sided {
+    /// 0, or the number of the refusal.
+    pub number: usize,
+    /// Where.
+    pub place: usize,
+    /// The size of the low side.
+    pub low: usize,
+}
+
+/// What planning and improving answer, beside the order and the starts in their tables.
+#[repr(C)]
+#[derive(Clone, Copy, Debug, PartialEq, Eq)]
+pub struct Planned {
+    /// 0, or the number of the refusal.
+    pub number: usize,
+    /// Where.
+    pub place: usize,
+    /// The highest slot.
+    pub highest: usize,
+    /// The number of swaps kept.
+    pub kept: usize,
+}
+
+/// What the floor call answers.
+#[repr(C)]
+#[derive(Clone, Copy, Debug, PartialEq, Eq)]
+pub struct Floored {
+    /// 0, or the number of the refusal.
+    pub number: usize,
+    /// Where.
+    pub place: usize,
+    /// The floor: no valid plan's highest slot is below it.
+    pub floor: usize,
+}
+
+/// What the reader answers, beside its tables.
+#[repr(C)]
+#[derive(Clone, Copy, Debug, PartialEq, Eq)]
+pub struct SheetRead {
+    /// 0, or the number of the refusal.
+    pub number: usize,
+    /// The line, from 1.
+    pub place: usize,
+    /// The number of paths.
+    pub n: usize,
+}
+
+/// What the writer answers, beside the text.
+#[repr(C)]
+#[derive(Clone, Copy, Debug, PartialEq, Eq)]
+pub struct SheetWritten {
+    /// 0, or the number of the refusal.
+    pub number: usize,
+    /// Where.
+    pub place: usize,
+    /// The sheet's length in bytes.
+    pub length: usize,
+}
+
+extern "C" {
+    /// See [`crate::judge`].
+    pub fn nesbrunka_judge(
+        n: usize,
+        widths: *const u16, widths_length: usize,
+        guards: *const u8, guards_length: usize,
+        starts: *const u16, starts_length: usize,
+    ) -> Judged;
+
+    /// See [`crate::pack`].
+    pub fn nesbrunka_pack(
+        n: usize,
+        widths: *const u16, widths_length: usize,
+        guards: *const u8, guards_length: usize,
+        order: *const u8, order_length: usize,
+        starts: *mut u16, starts_length: usize,
+    ) -> Packed;
+
+    /// See [`crate::press`].
+    pub fn nesbrunka_press(
+        n: usize,
+        widths: *const u16, widths_length: usize,
+        guards: *const u8, guards_length: usize,
+        starts: *mut u16, starts_length: usize,
+    ) -> Packed;
+
+    /// See [`crate::better`]: 1 for the first order, 2 for the second, 0 for neither.
+    pub fn nesbrunka_better(
+        n: usize,
+        widths: *const u16, widths_length: usize,
+        guards: *const u8, guards_length: usize,
+        first: *const u8, first_length: usize,
+        second: *const u8, second_length: usize,
+    ) -> usize;
+
+    /// See [`crate::two_sides`].
+    pub fn nesbrunka_two_sides(
+        n: usize,
+        widths: *const u16, widths_length: usize,
+        guards: *const u8, guards_length: usize,
+        order: *mut u8, order_length: usize,
+    ) -> Sided;
+
+    /// See [`crate::plan`].
+    pub fn nesbrunka_plan(
+        n: usize,
+        widths: *const u16, widths_length: usize,
+        guards: *const u8, guards_length: usize,
+        order: *mut u8, order_length: usize,
+        starts: *mut u16, starts_length: usize,
+        seed: u32,
+        rounds: usize,
+    ) -> Planned;
+
+    /// See [`crate::improve`].
+    pub fn nesbrunka_improve(
+        n: usize,
+        widths: *const u16, widths_length: usize,
+        guards: *const u8, guards_length: usize,
+        order: *mut u8, order_length: usize,
+        starts: *mut u16, starts_length: usize,
+        seed: u32,
+        rounds: usize,
+    ) -> Planned;
+
+    /// See [`crate::floor`].
+    pub fn nesbrunka_floor(
+        n: usize,
+        widths: *const u16, widths_length: usize,
+        guards: *const u8, guards_length: usize,
+        list: *const u8, list_length: usize,
+    ) -> Floored;
+
+    /// See [`crate::read`].
+    pub fn nesbrunka_read(
+        text: *const u8, text_length: usize,
+        labels: *mut u8, labels_length: usize,
+        widths: *mut u16, widths_length: usize,
+        guards: *mut u8, guards_length: usize,
+        starts: *mut u16, starts_length: usize,
+    ) -> SheetRead;
+
+    /// See [`crate::write`].
+    pub fn nesbrunka_write(
+        n: usize,
+        labels: *const u8, labels_length: usize,
+        widths: *const u16, widths_length: usize,
+        guards: *const u8, guards_length: usize,
+        starts: *const u16, starts_length: usize,
+        text: *mut u8, text_length: usize,
+    ) -> SheetWritten;
+}
