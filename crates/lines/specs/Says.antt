@@ -6,7 +6,7 @@ use mathlib.Core.List.{List}
 use lib.ListN.{length, drop}
 use Rattle.rules.specs.Text.{none, some}
 use Rattle.rules.specs.Sheet.{Line, wrong, right, guardLine}
-use Rattle.text.specs.Keys.{Keyed}
+use Rattle.labels.specs.Keys.{Keyed}
 use Rattle.text.specs.Says.{part}
 use Rattle.lines.specs.declared.GuardLine.{GuardLine}
 use Rattle.lines.specs.declared.GuardLine.the-variants.{Pair, Unpaired}

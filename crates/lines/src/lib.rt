@@ -1,12 +1,11 @@
-// The lines of a sheet over its tables: what each means as it is read, and the guard line as it is written.
+// An inner crate, for the readers of sheets: what each line of a sheet means, over the tables that it is read into.
 ghost use mathlib.Core.Path.{_≡_};
 ghost use mathlib.Core.List.{List};
 ghost use Prim.Native.Nat.{ℕ, _+_, _*_, _≤_, _<_};
 ghost use lib.ListN.{length, drop};
+ghost use Rattle.rules.specs.Numbers.{outside};
 ghost use Rattle.rules.specs.Sheet.{pathStep, guardStep, startStep};
-ghost use Rattle.rules.specs.Writing.{guardText};
-ghost use Rattle.text.specs.Keys.{Keyed};
-ghost use Rattle.text.specs.Says.{Wrote};
+ghost use Rattle.labels.specs.Keys.{Keyed};
 ghost use Rattle.lines.specs.Says.{GuardLineIs, StepIs, StepWithin, PathStepIs};
 use text::Next;
 use text::PathLine;
@@ -23,6 +22,23 @@ pub enum Step {
     Refused(usize),
 }
 
+// What a field may hold, as the number that it spells: that can be 99,999, more than a table's cell takes.
+const WIDTH_MOST: usize = rules::WIDTH_MOST as usize;
+
+const GUARD_MOST: usize = rules::GUARD_MOST as usize;
+
+const START_MOST: usize = rules::START_MOST as usize;
+
+// A number that is not 1 to `most`.
+fn out_of_range(v: usize, most: usize) -> bool
+    ensures { λ r. ⌜ r ≡ outside 1 most v ⌝ }
+{
+    if v < 1 {
+        return true;
+    }
+    most < v
+}
+
 // Path k's line: 11, 12 label twice, 3 width not 1 to 64.
 pub fn path_step(
     text: &[u8],
@@ -35,26 +51,25 @@ pub fn path_step(
     requires { ⌜ (place ≤ length (now text)) × (8 * k + 8 ≤ length (now labels)) × (k < length (now widths)) × (k < length (now keys)) × Keyed (now labels) (now keys) k ⌝ }
     ensures { λ r. ⌜ PathStepIs (now (text .entry)) (now (labels .exit)) (now (widths .exit)) (now (keys .exit)) k (pathStep k (now (labels .entry), now (widths .entry)) (drop place (now (text .entry)))) r ⌝ }
 {
-    let PathLine::Fields(e, v, next) = text::path_line(text, place) else {
-        return Step::Refused(11);
+    let PathLine::Fields(e, width, next) = text::path_line(text, place) else {
+        return Step::Refused(rules::REFUSED_FORM);
     };
-    let key = text::label_key(text, place, e);
-    let i = text::find(keys, k, key);
+    let key = labels::label_key(text, place, e);
+    let i = labels::find(keys, k, key);
+    let bad_width = out_of_range(width, WIDTH_MOST);
     if i < k {
-        return Step::Refused(12);
+        return Step::Refused(rules::REFUSED_LABEL_TWICE);
     }
-    if v < 1 {
-        return Step::Refused(3);
+    if bad_width {
+        return Step::Refused(rules::REFUSED_WIDTH);
     }
-    if 64 < v {
-        return Step::Refused(3);
-    }
-    text::put_row(labels, k, text, place, e);
+    labels::put_row(labels, k, text, place, e);
     keys[k] = key;
-    widths[k] = v as u16;
+    widths[k] = width as u16;
     Step::On(next)
 }
 
+// Two labels and a number: a label, and then a line like a path's.
 pub fn guard_line(text: &[u8], place: usize) -> GuardLine
     requires { ⌜ place ≤ length (now text) ⌝ }
     ensures { λ r. ⌜ GuardLineIs (now (text .entry)) place r ⌝ }
@@ -77,31 +92,31 @@ pub fn guard_step(text: &[u8], place: usize, n: usize, keys: &[usize], guards: &
     ensures { λ r. ⌜ StepWithin (now (text .entry)) r × ((labels : List ℕ) → Keyed labels (now (keys .entry)) n
         → StepIs (now (text .entry)) (now (guards .exit)) (guardStep n labels 0 (now (guards .entry)) (drop place (now (text .entry)))) r) ⌝ }
 {
-    let GuardLine::Pair(e, f, e2, g, next) = guard_line(text, place) else {
-        return Step::Refused(11);
+    let GuardLine::Pair(e, f, e2, guard, next) = guard_line(text, place) else {
+        return Step::Refused(rules::REFUSED_FORM);
     };
-    let a = text::label_key(text, place, e);
-    let b = text::label_key(text, f, e2);
-    let i = text::find(keys, n, a);
-    let j = text::find(keys, n, b);
+    let a = labels::label_key(text, place, e);
+    let b = labels::label_key(text, f, e2);
+    let i = labels::find(keys, n, a);
+    let j = labels::find(keys, n, b);
     if n <= i {
-        return Step::Refused(13);
+        return Step::Refused(rules::REFUSED_LABEL_UNKNOWN);
     }
     if n <= j {
-        return Step::Refused(13);
+        return Step::Refused(rules::REFUSED_LABEL_UNKNOWN);
     }
     if i == j {
-        return Step::Refused(13);
+        return Step::Refused(rules::REFUSED_LABEL_UNKNOWN);
     }
-    let given = guards[128 * i + j];
-    if given != 255 {
-        return Step::Refused(14);
+    let given = guards[rules::PATHS * i + j];
+    if given != rules::NO_CONFLICT {
+        return Step::Refused(rules::REFUSED_PAIR_TWICE);
     }
-    if 32 < g {
-        return Step::Refused(4);
+    if GUARD_MOST < guard {
+        return Step::Refused(rules::REFUSED_GUARD);
     }
-    guards[128 * i + j] = g as u8;
-    guards[128 * j + i] = g as u8;
+    guards[rules::PATHS * i + j] = guard as u8;
+    guards[rules::PATHS * j + i] = guard as u8;
     Step::On(next)
 }
 
@@ -118,56 +133,17 @@ pub fn start_step(
     ensures { λ r. ⌜ StepWithin (now (text .entry)) r × ((labels : List ℕ) → Keyed labels (now (keys .entry)) n
         → StepIs (now (text .entry)) (now (starts .exit)) (startStep labels k (now (starts .entry)) (drop place (now (text .entry)))) r) ⌝ }
 {
-    let PathLine::Fields(e, v, next) = text::path_line(text, place) else {
-        return Step::Refused(11);
+    let PathLine::Fields(e, start, next) = text::path_line(text, place) else {
+        return Step::Refused(rules::REFUSED_FORM);
     };
-    let key = text::label_key(text, place, e);
+    let key = labels::label_key(text, place, e);
+    let bad_start = out_of_range(start, START_MOST);
     if keys[k] != key {
-        return Step::Refused(13);
+        return Step::Refused(rules::REFUSED_LABEL_UNKNOWN);
     }
-    if v < 1 {
-        return Step::Refused(7);
+    if bad_start {
+        return Step::Refused(rules::REFUSED_START);
     }
-    if 16384 < v {
-        return Step::Refused(7);
-    }
-    starts[k] = v as u16;
+    starts[k] = start as u16;
     Step::On(next)
-}
-
-// The length of the line of paths i and j, 0 where they have none.
-pub fn guard_line_length(labels: &[u8], guards: &[u8], i: usize, j: usize) -> usize
-    requires { ⌜ (i < j) × (j < 128) × (length (now labels) ≡ 1024) × (length (now guards) ≡ 16384) ⌝ }
-    ensures { λ r. ⌜ (r ≡ length (guardText (now (labels .entry)) (now (guards .entry)) i j)) × (r ≤ 24) ⌝ }
-{
-    let guard = guards[128 * i + j];
-    if guard == 255 {
-        return 0;
-    }
-    text::label_length(labels, i)
-        + text::label_length(labels, j)
-        + text::number_length(guard as usize)
-        + 3
-}
-
-// Puts the line of paths i and j, "the earlier path first", where they have one.
-pub fn put_guard_line(
-    text: &mut [u8],
-    place: usize,
-    labels: &[u8],
-    guards: &[u8],
-    i: usize,
-    j: usize,
-) -> usize
-    requires { ⌜ (i < j) × (j < 128) × (length (now labels) ≡ 1024) × (length (now guards) ≡ 16384) × (place + length (guardText (now labels) (now guards) i j) ≤ length (now text)) ⌝ }
-    ensures { λ r. ⌜ Wrote (now (text .entry)) place (guardText (now (labels .entry)) (now (guards .entry)) i j) r (now (text .exit)) ⌝ }
-{
-    let guard = guards[128 * i + j];
-    if guard == 255 {
-        return place;
-    }
-    let p = text::put_label(text, place, labels, i);
-    let q = text::put_word(text, p, b" ");
-    let e = text::put_label(text, q, labels, j);
-    text::put_last(text, e, guard as usize)
 }

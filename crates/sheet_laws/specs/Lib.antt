@@ -3,3 +3,4 @@ pub mod Rows
 pub mod Lines
 pub mod Writes
 pub mod FirstBytes
+pub mod Sizes

@@ -1,3 +1,2 @@
 pub mod Classes
-pub mod Rows
-pub mod Pieces
+pub mod Fields

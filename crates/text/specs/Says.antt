@@ -5,9 +5,8 @@ use mathlib.Core.Path.{_≡_}
 use mathlib.Core.Bool.{Bool, true, false}
 use mathlib.Core.List.{List}
 use lib.ListN.{length, take, drop}
-use lib.Seq.{sets}
 use Rattle.rules.specs.Text.{none, some, isDigit, isLabelByte, label, number, word}
-use Rattle.rules.specs.Sheet.{countLine, pathLine}
+use Rattle.rules.specs.Sheet.{lastField, countLine, pathLine}
 use Rattle.text.specs.declared.Next.{Next}
 use Rattle.text.specs.declared.Next.the-variants.{At, Missing}
 use Rattle.text.specs.declared.Amount.{Amount}
@@ -36,6 +35,10 @@ abbrev pub NumberIs : List ℕ → ℕ → Amount → Type 0
 NumberIs s a Unread = number (drop a s) ≡ none
 NumberIs s a (Is v e) = (number (drop a s) ≡ some v (drop e s)) × (v < 100000) × (e ≤ length s)
 
+abbrev pub LastIs : List ℕ → ℕ → Amount → Type 0
+LastIs s a Unread = lastField (drop a s) ≡ none
+LastIs s a (Is v e) = (lastField (drop a s) ≡ some v (drop e s)) × (v < 100000) × (e ≤ length s)
+
 abbrev pub CountIs : List ℕ → ℕ → List ℕ → Amount → Type 0
 CountIs s a w Unread = countLine w (drop a s) ≡ none
 CountIs s a w (Is v e) = (countLine w (drop a s) ≡ some v (drop e s)) × (v < 100000) × (e ≤ length s)
@@ -43,7 +46,3 @@ CountIs s a w (Is v e) = (countLine w (drop a s) ≡ some v (drop e s)) × (v < 
 abbrev pub PathLineIs : List ℕ → ℕ → PathLine → Type 0
 PathLineIs s a Malformed = pathLine (drop a s) ≡ none
 PathLineIs s a (Fields e v h) = (pathLine (drop a s) ≡ some (part s a e, v) (drop h s)) × (a < e) × (e ≤ length s) × (h ≤ length s)
-
--- the piece w was written at a place, and r is the place after it
-abbrev pub Wrote : List ℕ → ℕ → List ℕ → ℕ → List ℕ → Type 0
-Wrote s a w r t = (r ≡ a + length w) × (t ≡ sets s a w)

@@ -7,7 +7,7 @@ use lib.ListN.{drop, length-set}
 use denote.Ref.{now}
 use Rattle.rules.specs.Tables.{at}
 use Rattle.rules.specs.Sheet.{find}
-use Rattle.text.specs.Keys.{Keyed, find-key}
+use Rattle.labels.specs.Keys.{Keyed, find-key}
 use Rattle.text.specs.Says.{part}
 use Rattle.lines.specs.Says.{GuardLineIs}
 use Rattle.lines.specs.declared.GuardLine.the-variants.{Pair, Unpaired}

@@ -1,4 +1,4 @@
-use Prim.Native.Nat.{ℕ}
+use Prim.Native.Nat.{ℕ, _≤_}
 use mathlib.Core.Path.{_≡_, sym, ap, _∙_}
 use mathlib.Core.List.{List}
 use native.Mathlib.Omega.{arith}
@@ -7,10 +7,12 @@ use lib.ListN.{drop, set}
 use denote.Ref.{now}
 use Rattle.rules.specs.Tables.{at}
 use Rattle.rules.specs.Sheet.{right, find}
-use Rattle.text.specs.Keys.{find-key, keyed-more}
+use Rattle.labels.specs.Keys.{find-key, keyed-more}
 use Rattle.text.specs.Says.{part, PathLineIs}
 use Rattle.text.specs.declared.PathLine.the-variants.{Fields, Malformed}
-use Rattle.sheet_laws.specs.Lines.{path-ill, path-twice, path-thin, path-wide, path-fine}
+use Rattle.table_laws.specs.Limits.{outside-not}
+use Rattle.sheet_laws.specs.Lines.{path-ill, path-twice, path-fine}
+use Rattle.lines.proofs.Ranges.{path-out}
 use Rattle.lines.proofs.path_step.Statement.{statement}
 use Rattle.lines.proofs.path_step.Tie as tie
 
@@ -21,6 +23,9 @@ found : (c : tie.After-find) → c .find .result ≡ find (now (c .before .befor
 found c =
     let a = c .before .before .before .before .before .before .before .before .before .before .before .args in
     c .find .ensures .0 ∙ sym (find-key (now (a .labels)) (now (a .keys)) (part (now (a .text)) (a .place) (c .before .before .before .before .e .given .0 .0)) (a .k) (c .before .before .label-key .result) (c .before .before .before .before .before .before .before .before .before .before .before .pre .4) (c .before .before .label-key .ensures))
+
+within : (c : tie.Else2) → (1 ≤ c .before .before .before .before .before .before .before .e .given .0 .1 .0) × (c .before .before .before .before .before .before .before .e .given .0 .1 .0 ≤ 64)
+within c = outside-not 1 64 (c .before .before .before .before .before .before .before .e .given .0 .1 .0) (sym (c .before .before .out-of-range .ensures) ∙ c .if2 .left)
 
 path-line-requires : tie.Need-path-line-requires
 path-line-requires c κs = search needs
@@ -43,35 +48,28 @@ label-key-requires c κs = omega (arith, at-e (c .before))
 find-requires : tie.Need-find-requires
 find-requires c κs = search needs
 
+out-of-range-requires : tie.Need-out-of-range-requires
+out-of-range-requires c κs = search needs
+
 same-length : tie.Need-same-length
 same-length c = search needs
 
 returns-2 : tie.Need-returns-2
 returns-2 c =
-    let a = c .before .before .before .before .before .before .before .before .before .before .before .before .args in
-    let g = c .before .before .before .before .before .e .given .0 in
+    let a = c .before .before .before .before .before .before .before .before .before .before .before .before .before .args in
+    let g = c .before .before .before .before .before .before .e .given .0 in
     let s = now (a .text) in
-    path-twice (a .k) (now (a .labels)) (now (a .widths)) (drop (a .place) s) (part s (a .place) (g .0)) (g .1 .0) (drop (g .1 .1 .0) s) (at-e (c .before .before .before .before .before) .0) (c .before .find .result) (found (c .before)) (c .if1 .taken)
+    path-twice (a .k) (now (a .labels)) (now (a .widths)) (drop (a .place) s) (part s (a .place) (g .0)) (g .1 .0) (drop (g .1 .1 .0) s) (at-e (c .before .before .before .before .before .before) .0) (c .before .before .find .result) (found (c .before .before)) (c .if1 .taken)
 
 same-length-2 : tie.Need-same-length-2
 same-length-2 c = search needs
 
 returns-3 : tie.Need-returns-3
 returns-3 c =
-    let a = c .before .before .before .before .before .before .before .before .before .before .before .before .before .args in
-    let g = c .before .before .before .before .before .before .e .given .0 in
-    let s = now (a .text) in
-    path-thin (a .k) (now (a .labels)) (now (a .widths)) (drop (a .place) s) (part s (a .place) (g .0)) (g .1 .0) (drop (g .1 .1 .0) s) (at-e (c .before .before .before .before .before .before) .0) (c .before .before .find .result) (found (c .before .before)) (c .before .if1 .left) (c .if2 .taken)
-
-same-length-3 : tie.Need-same-length-3
-same-length-3 c = search needs
-
-returns-4 : tie.Need-returns-4
-returns-4 c =
     let a = c .before .before .before .before .before .before .before .before .before .before .before .before .before .before .args in
     let g = c .before .before .before .before .before .before .before .e .given .0 in
     let s = now (a .text) in
-    path-wide (a .k) (now (a .labels)) (now (a .widths)) (drop (a .place) s) (part s (a .place) (g .0)) (g .1 .0) (drop (g .1 .1 .0) s) (at-e (c .before .before .before .before .before .before .before) .0) (c .before .before .before .find .result) (found (c .before .before .before)) (c .before .before .if1 .left) (c .if3 .taken)
+    path-out (a .k) (now (a .labels)) (now (a .widths)) (drop (a .place) s) (part s (a .place) (g .0)) (g .1 .0) (drop (g .1 .1 .0) s) (at-e (c .before .before .before .before .before .before .before) .0) (c .before .before .before .find .result) (found (c .before .before .before)) (c .before .if1 .left) (sym (c .before .before .out-of-range .ensures) ∙ c .if2 .taken)
 
 put-row-requires : tie.Need-put-row-requires
 put-row-requires c κs = omega (arith, at-e (c .before .before .before .before .before .before .before .before), c .before .before .before .before .before .before .before .before .before .before .before .before .before .before .before .pre)
@@ -83,7 +81,7 @@ slice-write-keys : tie.Need-slice-write-keys
 slice-write-keys c = search needs
 
 cast-widths : tie.Need-cast-widths
-cast-widths c = search needs
+cast-widths c = omega (arith, within (c .before .before .before .before))
 
 mul-widths : tie.Need-mul-widths
 mul-widths c = search needs
@@ -91,21 +89,22 @@ mul-widths c = search needs
 slice-write-widths : tie.Need-slice-write-widths
 slice-write-widths c = search needs
 
+same-length-3 : tie.Need-same-length-3
+same-length-3 c = search needs
+
 same-length-4 : tie.Need-same-length-4
 same-length-4 c = search needs
 
 same-length-5 : tie.Need-same-length-5
 same-length-5 c = search needs
 
-same-length-6 : tie.Need-same-length-6
-same-length-6 c = search needs
-
-returns-5 : tie.Need-returns-5
-returns-5 c =
+returns-4 : tie.Need-returns-4
+returns-4 c =
     let a = c .before .before .before .before .before .before .before .before .before .before .before .before .before .before .before .before .before .before .args in
     let g = c .before .before .before .before .before .before .before .before .before .before .before .e .given .0 in
-    let s = now (a .text) in (
-      path-fine (a .k) (now (a .labels)) (now (a .widths)) (drop (a .place) s) (part s (a .place) (g .0)) (g .1 .0) (drop (g .1 .1 .0) s) (at-e (c .before .before .before .before .before .before .before .before .before .before .before) .0) (c .before .before .before .before .before .before .before .find .result) (found (c .before .before .before .before .before .before .before)) (c .before .before .before .before .before .before .if1 .left) (c .before .before .before .before .before .if2 .left) (c .before .before .before .before .if3 .left)
+    let s = now (a .text) in
+    let w = within (c .before .before .before .before) in (
+      path-fine (a .k) (now (a .labels)) (now (a .widths)) (drop (a .place) s) (part s (a .place) (g .0)) (g .1 .0) (drop (g .1 .1 .0) s) (at-e (c .before .before .before .before .before .before .before .before .before .before .before) .0) (c .before .before .before .before .before .before .before .find .result) (found (c .before .before .before .before .before .before .before)) (c .before .before .before .before .before .if1 .left) (w .0) (w .1)
           ∙ ap (λ (x : List ℕ). right (x, set (now (a .widths)) (a .k) (g .1 .0)) (drop (g .1 .1 .0) s)) (sym (c .before .before .put-row .ensures)),
       at-e (c .before .before .before .before .before .before .before .before .before .before .before) .3,
       rw (c .before .before .put-row .ensures) (keyed-more (now (a .labels)) (now (a .keys)) (part s (a .place) (g .0)) (a .k) (c .before .before .before .before .before .before .before .before .before .label-key .result) (c .before .before .before .before .before .before .before .before .before .before .before .before .before .before .before .before .before .before .pre .4) (c .before .before .before .before .before .before .before .before .before .label-key .ensures) (omega arith) (omega arith)),
@@ -121,19 +120,18 @@ path-step-spec =
     returns
     label-key-requires
     find-requires
+    out-of-range-requires
     same-length
     returns-2
     same-length-2
     returns-3
-    same-length-3
-    returns-4
     put-row-requires
     mul-keys
     slice-write-keys
     cast-widths
     mul-widths
     slice-write-widths
+    same-length-3
     same-length-4
     same-length-5
-    same-length-6
-    returns-5)
+    returns-4)

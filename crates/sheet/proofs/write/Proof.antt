@@ -1,30 +1,44 @@
+use Prim.Native.Nat.{_≤_}
 use native.Mathlib.Omega.{arith}
 use borrow.Author.Needs.{needs}
 use denote.Ref.{now}
-use Rattle.sheet.proofs.Sheets.{sheet-length, write-refused, write-short, write-done, table-clear}
+use Rattle.rules.specs.Tables.{lend}
+use Rattle.sheet_laws.specs.Sizes.{Sized}
+use Rattle.sheet.proofs.Written.{write-refused, write-short, write-done, table-clear}
 use Rattle.sheet.proofs.write.Statement.{statement}
 use Rattle.sheet.proofs.write.Tie as tie
+
+fit : (c : tie.Else1) → (c .before .before .before .before .before .before .before .before .args .n ≤ 128) × Sized (now (c .before .before .before .before .before .before .before .before .args .labels)) (now (c .before .before .before .before .before .before .before .before .args .widths)) (now (c .before .before .before .before .before .before .before .before .args .guards)) (now (c .before .before .before .before .before .before .before .before .args .starts))
+fit c =
+    let a = c .before .before .before .before .before .before .before .before .args in
+    table-clear (a .n) (now (a .labels)) (now (a .widths)) (now (a .guards)) (now (a .starts)) (c .before .before .table-fault .result) (c .before .before .table-fault .ensures) (c .if1 .left)
 
 table-fault-requires : tie.Need-table-fault-requires
 table-fault-requires c κs = search needs
 
 returns : tie.Need-returns
-returns c = let a = c .before .before .before .before .before .before .before .before .args in write-refused (a .n) (now (a .labels)) (now (a .widths)) (now (a .guards)) (now (a .starts)) (now (a .text)) (c .before .before .table-fault .result) (c .before .before .table-fault .ensures) (c .if1 .taken)
+returns c =
+    let a = c .before .before .before .before .before .before .before .before .args in
+    write-refused (a .n) (now (a .labels)) (lend (now (a .widths)) (now (a .guards))) (now (a .starts)) (now (a .text)) (c .before .before .table-fault .result) (c .before .before .table-fault .ensures) (c .if1 .taken)
 
 sheet-length-requires : tie.Need-sheet-length-requires
-sheet-length-requires c κs = let h = table-clear (c .before .before .before .before .before .before .before .before .args .n) (now (c .before .before .before .before .before .before .before .before .args .labels)) (now (c .before .before .before .before .before .before .before .before .args .widths)) (now (c .before .before .before .before .before .before .before .before .args .guards)) (now (c .before .before .before .before .before .before .before .before .args .starts)) (c .before .before .table-fault .result) (c .before .before .table-fault .ensures) (c .if1 .left) in (h .1, h .0)
+sheet-length-requires c κs = fit c
 
 returns-2 : tie.Need-returns-2
-returns-2 c = let a = c .before .before .before .before .before .before .before .before .before .before .args in write-short (a .n) (now (a .labels)) (now (a .widths)) (now (a .guards)) (now (a .starts)) (now (a .text)) (c .before .before .before .before .table-fault .result) (c .before .before .before .before .table-fault .ensures) (c .before .before .if1 .left) (omega (arith, c .before .sheet-length .ensures))
+returns-2 c =
+    let a = c .before .before .before .before .before .before .before .before .before .before .args in
+    write-short (a .n) (now (a .labels)) (lend (now (a .widths)) (now (a .guards))) (now (a .starts)) (now (a .text)) (c .before .before .before .before .table-fault .result) (c .before .before .before .before .table-fault .ensures) (c .before .before .if1 .left) (omega (arith, c .before .sheet-length .ensures))
 
 put-sheet-requires : tie.Need-put-sheet-requires
-put-sheet-requires c κs = let h = table-clear (c .before .before .before .before .before .before .before .before .before .before .before .args .n) (now (c .before .before .before .before .before .before .before .before .before .before .before .args .labels)) (now (c .before .before .before .before .before .before .before .before .before .before .before .args .widths)) (now (c .before .before .before .before .before .before .before .before .before .before .before .args .guards)) (now (c .before .before .before .before .before .before .before .before .before .before .before .args .starts)) (c .before .before .before .before .before .table-fault .result) (c .before .before .before .before .before .table-fault .ensures) (c .before .before .before .if1 .left) in (h .1, h .0, omega (arith, c .before .before .sheet-length .ensures, c .before .if2 .left))
+put-sheet-requires c κs = let h = fit (c .before .before .before) in (h .0, h .1, omega (arith, c .before .before .sheet-length .ensures, c .before .if2 .left))
 
 same-length : tie.Need-same-length
 same-length c = search needs
 
 returns-3 : tie.Need-returns-3
-returns-3 c = let a = c .before .before .before .before .before .before .before .before .before .before .before .before .before .before .args in write-done (a .n) (now (a .labels)) (now (a .widths)) (now (a .guards)) (now (a .starts)) (now (a .text)) (c .before .before .before .before .before .before .before .before .table-fault .result) (c .before .before .before .before .before .before .before .before .table-fault .ensures) (c .before .before .before .before .before .before .if1 .left) (c .before .before .before .before .before .sheet-length .result) (c .before .before .put-sheet .last .0) (c .before .before .before .before .before .sheet-length .ensures) (c .before .before .before .before .if2 .left) (c .before .before .put-sheet .ensures .1)
+returns-3 c =
+    let a = c .before .before .before .before .before .before .before .before .before .before .before .before .before .before .args in
+    write-done (a .n) (now (a .labels)) (lend (now (a .widths)) (now (a .guards))) (now (a .starts)) (now (a .text)) (c .before .before .before .before .before .before .before .before .table-fault .result) (c .before .before .before .before .before .before .before .before .table-fault .ensures) (c .before .before .before .before .before .before .if1 .left) (c .before .before .before .before .before .sheet-length .result) (c .before .before .put-sheet .last .0) (c .before .before .before .before .before .sheet-length .ensures) (c .before .before .before .before .if2 .left) (c .before .before .put-sheet .ensures .1)
 
 pub write-spec : {M : Type 1} → statement M
 write-spec =

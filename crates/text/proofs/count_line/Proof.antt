@@ -1,25 +1,15 @@
-use mathlib.Core.List.{[], _∷_}
 use borrow.Author.Needs.{needs}
 use denote.Ref.{now}
 use Rattle.rules.specs.Text.{then}
 use Rattle.rules.specs.Sheet.{countLine}
-use Rattle.text.specs.Says.{WordIs, NumberIs}
+use Rattle.text.specs.Says.{WordIs}
 use Rattle.text.specs.declared.Next.the-variants.{At, Missing}
-use Rattle.text.specs.declared.Amount.the-variants.{Is, Unread}
+use Rattle.text.proofs.Fields.{count-last}
 use Rattle.text.proofs.count_line.Statement.{statement}
 use Rattle.text.proofs.count_line.Tie as tie
 
 at-e : (c : tie.After-e) → WordIs (now (c .before .before .before .before .before .args .text)) (c .before .before .before .before .before .args .place) (now (c .before .before .before .before .before .args .w)) (At (c .e .given .0 .0))
 at-e c = rw (c .e .given .1) at (c .before .before .word .ensures)
-
-at-f : (c : tie.After-f) → WordIs (now (c .before .before .before .before .before .before .before .before .before .before .args .text)) (c .before .before .before .before .before .e .given .0 .0) (32 ∷ []) (At (c .f .given .0 .0))
-at-f c = rw (c .f .given .1) at (c .before .before .word2 .ensures)
-
-at-v : (c : tie.After-v) → NumberIs (now (c .before .before .before .before .before .before .before .before .before .before .before .before .before .before .args .text)) (c .before .before .before .before .f .given .0 .0) (Is (c .v .given .0 .0) (c .v .given .0 .1 .0))
-at-v c = rw (c .v .given .1) at (c .before .before .number .ensures)
-
-at-h : (c : tie.After-h) → WordIs (now (c .before .before .before .before .before .before .before .before .before .before .before .before .before .before .before .before .before .before .before .args .text)) (c .before .before .before .before .before .v .given .0 .1 .0) (10 ∷ []) (At (c .h .given .0 .0))
-at-h c = rw (c .h .given .1) at (c .before .before .word3 .ensures)
 
 word-requires : tie.Need-word-requires
 word-requires c κs = search needs
@@ -36,92 +26,14 @@ returns c =
     let z : WordIs (now (c .before .before .before .before .before .args .text)) (c .before .before .before .before .before .args .place) (now (c .before .before .before .before .before .args .w)) Missing = rw (c .enum-told .given .1) at (c .before .before .word .ensures) in
     rw z
 
-slice-aggregate-word : tie.Need-slice-aggregate-word
-slice-aggregate-word c = search needs
-
-word-requires-2 : tie.Need-word-requires-2
-word-requires-2 c κs = at-e (c .before .before) .1
-
-enum-known-f : tie.Need-enum-known-f
-enum-known-f c = search needs
-
-enum-told-2 : tie.Need-enum-told-2
-enum-told-2 c = search needs
+last-field-requires : tie.Need-last-field-requires
+last-field-requires c κs = at-e (c .before) .1
 
 returns-2 : tie.Need-returns-2
-unfolding countLine then
 returns-2 c =
-    let e = at-e (c .before .before .before .before .before) in
-    let z : WordIs (now (c .before .before .before .before .before .before .before .before .before .before .args .text)) (c .before .before .before .before .before .e .given .0 .0) (32 ∷ []) Missing = rw (c .enum-told2 .given .1) at (c .before .before .word2 .ensures) in
-    rw (e .0, z)
-
-number-requires : tie.Need-number-requires
-number-requires c κs = at-f (c .before) .1
-
-enum-known-v : tie.Need-enum-known-v
-enum-known-v c = search needs
-
-enum-told-3 : tie.Need-enum-told-3
-enum-told-3 c = search needs
-
-returns-3 : tie.Need-returns-3
-unfolding countLine then
-returns-3 c =
-    let e = at-e (c .before .before .before .before .before .before .before .before .before) in
-    let f = at-f (c .before .before .before .before) in
-    let z : NumberIs (now (c .before .before .before .before .before .before .before .before .before .before .before .before .before .before .args .text)) (c .before .before .before .before .f .given .0 .0) Unread = rw (c .enum-told3 .given .1) at (c .before .before .number .ensures) in
-    rw (e .0, f .0, z)
-
-slice-aggregate-word-2 : tie.Need-slice-aggregate-word-2
-slice-aggregate-word-2 c = search needs
-
-word-requires-3 : tie.Need-word-requires-3
-word-requires-3 c κs = at-v (c .before .before) .2
-
-enum-known-h : tie.Need-enum-known-h
-enum-known-h c = search needs
-
-enum-told-4 : tie.Need-enum-told-4
-enum-told-4 c = search needs
-
-returns-4 : tie.Need-returns-4
-unfolding countLine then
-returns-4 c =
-    let e = at-e (c .before .before .before .before .before .before .before .before .before .before .before .before .before .before) in
-    let f = at-f (c .before .before .before .before .before .before .before .before .before) in
-    let v = at-v (c .before .before .before .before .before) in
-    let z : WordIs (now (c .before .before .before .before .before .before .before .before .before .before .before .before .before .before .before .before .before .before .before .args .text)) (c .before .before .before .before .before .v .given .0 .1 .0) (10 ∷ []) Missing = rw (c .enum-told4 .given .1) at (c .before .before .word3 .ensures) in
-    rw (e .0, f .0, v .0, z)
-
-returns-5 : tie.Need-returns-5
-unfolding countLine then
-returns-5 c =
-    let e = at-e (c .before .before .before .before .before .before .before .before .before .before .before .before .before .before .before) in
-    let f = at-f (c .before .before .before .before .before .before .before .before .before .before) in
-    let v = at-v (c .before .before .before .before .before .before) in
-    let h = at-h (c .before) in
-    (rw (e .0, f .0, v .0, h .0), v .1, h .1)
+    let a = c .before .before .before .before .before .before .before .args in
+    count-last (now (a .text)) (now (a .w)) (a .place) (c .before .before .e .given .0 .0) (c .last-field .result) (at-e (c .before .before) .0) (c .last-field .ensures)
 
 pub count-line-spec : {M : Type 1} → statement M
 count-line-spec =
-    tie.close
-    (tie.spec
-    word-requires
-    enum-known-e
-    enum-told
-    returns
-    slice-aggregate-word
-    word-requires-2
-    enum-known-f
-    enum-told-2
-    returns-2
-    number-requires
-    enum-known-v
-    enum-told-3
-    returns-3
-    slice-aggregate-word-2
-    word-requires-3
-    enum-known-h
-    enum-told-4
-    returns-4
-    returns-5)
+    tie.close (tie.spec word-requires enum-known-e enum-told returns last-field-requires returns-2)

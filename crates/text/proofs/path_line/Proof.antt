@@ -1,25 +1,18 @@
+use borrow.Author.Needs.{needs}
 use denote.Ref.{now}
-use mathlib.Core.List.{[], _∷_}
-use Rattle.rules.specs.Text.{then, label, word, number}
+use Rattle.rules.specs.Text.{then}
 use Rattle.rules.specs.Sheet.{pathLine}
-use Rattle.text.specs.Says.{WordIs, LabelIs, NumberIs}
+use Rattle.text.specs.Says.{LabelIs, LastIs}
 use Rattle.text.specs.declared.Next.the-variants.{At, Missing}
 use Rattle.text.specs.declared.Amount.the-variants.{Is, Unread}
-use borrow.Author.Needs.{needs}
 use Rattle.text.proofs.path_line.Statement.{statement}
 use Rattle.text.proofs.path_line.Tie as tie
 
 at-e : (c : tie.After-e) → LabelIs (now (c .before .before .before .before .args .text)) (c .before .before .before .before .args .place) (At (c .e .given .0 .0))
 at-e c = rw (c .e .given .1) at (c .before .before .label .ensures)
 
-at-f : (c : tie.After-f) → WordIs (now (c .before .before .before .before .before .before .before .before .before .args .text)) (c .before .before .before .before .before .e .given .0 .0) (32 ∷ []) (At (c .f .given .0 .0))
-at-f c = rw (c .f .given .1) at (c .before .before .word .ensures)
-
-at-v : (c : tie.After-v) → NumberIs (now (c .before .before .before .before .before .before .before .before .before .before .before .before .before .args .text)) (c .before .before .before .before .f .given .0 .0) (Is (c .v .given .0 .0) (c .v .given .0 .1 .0))
-at-v c = rw (c .v .given .1) at (c .before .before .number .ensures)
-
-at-next : (c : tie.After-next) → WordIs (now (c .before .before .before .before .before .before .before .before .before .before .before .before .before .before .before .before .before .before .args .text)) (c .before .before .before .before .before .v .given .0 .1 .0) (10 ∷ []) (At (c .next .given .0 .0))
-at-next c = rw (c .next .given .1) at (c .before .before .word2 .ensures)
+at-v : (c : tie.After-v) → LastIs (now (c .before .before .before .before .before .before .before .before .args .text)) (c .before .before .before .before .e .given .0 .0) (Is (c .v .given .0 .0) (c .v .given .0 .1 .0))
+at-v c = rw (c .v .given .1) at (c .before .before .last-field .ensures)
 
 label-requires : tie.Need-label-requires
 label-requires c κs = search needs
@@ -36,14 +29,11 @@ returns c =
     let z : LabelIs (now (c .before .before .before .before .args .text)) (c .before .before .before .before .args .place) Missing = rw (c .enum-told .given .1) at (c .before .before .label .ensures) in
     rw z
 
-slice-aggregate-word : tie.Need-slice-aggregate-word
-slice-aggregate-word c = search needs
+last-field-requires : tie.Need-last-field-requires
+last-field-requires c κs = at-e (c .before) .3
 
-word-requires : tie.Need-word-requires
-word-requires c κs = at-e (c .before .before) .3
-
-enum-known-f : tie.Need-enum-known-f
-enum-known-f c = search needs
+enum-known-v : tie.Need-enum-known-v
+enum-known-v c = search needs
 
 enum-told-2 : tie.Need-enum-told-2
 enum-told-2 c = search needs
@@ -51,56 +41,16 @@ enum-told-2 c = search needs
 returns-2 : tie.Need-returns-2
 unfolding pathLine then
 returns-2 c =
-    let e = at-e (c .before .before .before .before .before) in
-    let z : WordIs (now (c .before .before .before .before .before .before .before .before .before .args .text)) (c .before .before .before .before .before .e .given .0 .0) (32 ∷ []) Missing = rw (c .enum-told2 .given .1) at (c .before .before .word .ensures) in
+    let e = at-e (c .before .before .before .before) in
+    let z : LastIs (now (c .before .before .before .before .before .before .before .before .args .text)) (c .before .before .before .before .e .given .0 .0) Unread = rw (c .enum-told2 .given .1) at (c .before .before .last-field .ensures) in
     rw (e .0, z)
-
-number-requires : tie.Need-number-requires
-number-requires c κs = at-f (c .before) .1
-
-enum-known-v : tie.Need-enum-known-v
-enum-known-v c = search needs
-
-enum-told-3 : tie.Need-enum-told-3
-enum-told-3 c = search needs
 
 returns-3 : tie.Need-returns-3
 unfolding pathLine then
 returns-3 c =
-    let e = at-e (c .before .before .before .before .before .before .before .before .before) in
-    let f = at-f (c .before .before .before .before) in
-    let z : NumberIs (now (c .before .before .before .before .before .before .before .before .before .before .before .before .before .args .text)) (c .before .before .before .before .f .given .0 .0) Unread = rw (c .enum-told3 .given .1) at (c .before .before .number .ensures) in
-    rw (e .0, f .0, z)
-
-slice-aggregate-word-2 : tie.Need-slice-aggregate-word-2
-slice-aggregate-word-2 c = search needs
-
-word-requires-2 : tie.Need-word-requires-2
-word-requires-2 c κs = at-v (c .before .before) .2
-
-enum-known-next : tie.Need-enum-known-next
-enum-known-next c = search needs
-
-enum-told-4 : tie.Need-enum-told-4
-enum-told-4 c = search needs
-
-returns-4 : tie.Need-returns-4
-unfolding pathLine then
-returns-4 c =
-    let e = at-e (c .before .before .before .before .before .before .before .before .before .before .before .before .before .before) in
-    let f = at-f (c .before .before .before .before .before .before .before .before .before) in
-    let v = at-v (c .before .before .before .before .before) in
-    let z : WordIs (now (c .before .before .before .before .before .before .before .before .before .before .before .before .before .before .before .before .before .before .args .text)) (c .before .before .before .before .before .v .given .0 .1 .0) (10 ∷ []) Missing = rw (c .enum-told4 .given .1) at (c .before .before .word2 .ensures) in
-    rw (e .0, f .0, v .0, z)
-
-returns-5 : tie.Need-returns-5
-unfolding pathLine then
-returns-5 c =
-    let e = at-e (c .before .before .before .before .before .before .before .before .before .before .before .before .before .before .before) in
-    let f = at-f (c .before .before .before .before .before .before .before .before .before .before) in
-    let v = at-v (c .before .before .before .before .before .before) in
-    let h = at-next (c .before) in
-    (rw (e .0, f .0, v .0, h .0), e .1, e .3, h .1)
+    let e = at-e (c .before .before .before .before .before) in
+    let v = at-v (c .before) in
+    (rw (e .0, v .0), e .1, e .3, v .2)
 
 pub path-line-spec : {M : Type 1} → statement M
 path-line-spec =
@@ -110,18 +60,8 @@ path-line-spec =
     enum-known-e
     enum-told
     returns
-    slice-aggregate-word
-    word-requires
-    enum-known-f
+    last-field-requires
+    enum-known-v
     enum-told-2
     returns-2
-    number-requires
-    enum-known-v
-    enum-told-3
-    returns-3
-    slice-aggregate-word-2
-    word-requires-2
-    enum-known-next
-    enum-told-4
-    returns-4
-    returns-5)
+    returns-3)
