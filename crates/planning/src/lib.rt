@@ -94,8 +94,8 @@ pub fn improve(
 ) -> Planned
     ensures { λ r. ⌜ left r (now (order .exit), now (starts .exit)) ≡ improving n (lend (now (widths .entry)) (now (guards .entry))) (now (order .entry)) (now (starts .entry)) seed rounds ⌝ }
 {
-    let a = tables::pack_fault(n, widths, guards, order, starts.len());
-    let f = then_rounds(a, rounds);
+    let packing = tables::pack_fault(n, widths, guards, order, starts.len());
+    let f = then_rounds(packing, rounds);
     if f.number != 0 {
         return Planned {
             number: f.number,
@@ -164,8 +164,8 @@ pub fn plan(
     ensures { λ r. ⌜ left r (now (order .exit), now (starts .exit)) ≡ planning n (lend (now (widths .entry)) (now (guards .entry))) (now (order .entry)) (now (starts .entry)) seed rounds ⌝ }
 {
     let sizes = tables::plan_sizes(order.len(), starts.len());
-    let a = tables::lent_fault(n, widths, guards, sizes);
-    let f = then_rounds(a, rounds);
+    let network = tables::lent_fault(n, widths, guards, sizes);
+    let f = then_rounds(network, rounds);
     if f.number != 0 {
         return Planned {
             number: f.number,
