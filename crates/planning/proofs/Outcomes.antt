@@ -1,8 +1,8 @@
 -- From what the inner functions answer to what the calls promise. Assumes nothing.
-use Prim.Native.Nat.{ℕ, _≤_, _<_}
+use Prim.Native.Nat.{ℕ, _≤_}
 use mathlib.Core.Path.{_≡_, refl, sym, ap, subst, _∙_}
 use mathlib.Core.Logic.{_≢_}
-use mathlib.Core.Bool.{Bool, true, false, not}
+use mathlib.Core.Bool.{true, false, not}
 use mathlib.Core.List.{List}
 use native.Mathlib.Omega.{arith}
 use lib.ListN.{length, replicate}
@@ -13,14 +13,13 @@ use Rattle.rules.specs.declared.Planned.{Planned}
 use Rattle.rules.specs.declared.Floored.{Floored}
 use Rattle.rules.specs.Tables.{at, cleared, Lent}
 use Rattle.rules.specs.Limits.{Network}
-use Rattle.rules.specs.Plan.{Net, netOf, highest}
+use Rattle.rules.specs.Plan.{netOf, highest}
 use Rattle.rules.specs.Packing.{lowest, packed}
-use Rattle.rules.specs.Sides.{opposite, marks, isHigh, sameMark, hasSides, twoSided, lowSide}
-use Rattle.rules.specs.Scan.{foundPair}
+use Rattle.rules.specs.Sides.{opposite, marks, isHigh, hasSides, twoSided, lowSide}
 use Rattle.rules.specs.Planning.{Run, startNext, greedy, improved}
 use Rattle.rules.specs.Floor.{floor}
-use Rattle.rules.specs.Numbers.{fault, noFault, _orElse_, sizeFault, planSizes, lentFault, packFault, sidesFault, roundsFault, twoSidesFault, planFault, improveFault, floorFault}
-use Rattle.rules.specs.Calls.{left, unless, siding, refusedPlanned, donePlanned, doneImproved, improving, donePlan, planning, flooring}
+use Rattle.rules.specs.Numbers.{fault, _orElse_, sizeFault, planSizes, lentFault, packFault, sidesFault, roundsFault, twoSidesFault, planFault, improveFault, floorFault}
+use Rattle.rules.specs.Calls.{left, siding, refusedPlanned, donePlanned, doneImproved, improving, donePlan, planning, flooring}
 use Rattle.table_laws.specs.Faults.{refuse-bad, refuse-clear, or-clear, or-stop, size-clear}
 use Rattle.table_laws.specs.Chains.{number-of, lent-clear}
 use Rattle.table_laws.specs.Tables.{cleared-length}
@@ -32,20 +31,16 @@ use Rattle.plan_laws.specs.Runs.{run-packable}
 use Rattle.rounds.specs.declared.Standing.{Standing}
 use Rattle.rounds.specs.Standing.{runOf}
 
--- the table of marks before and after the sides are marked
+-- the table of marks before the sides are found
 pub blank : replicate 128 0 ≡ cleared 128 0
 unfolding cleared
 blank = refl
 
--- the marks found are the sides
+-- the marks of the sides: a full table, the two-sided order and the size of the low side
 module _ (n : ℕ) (lent : Lent) (mark : List ℕ) (e : mark ≡ marks (netOf lent) n) where
   pub marks-full : length mark ≡ 128
   unfolding marks
   marks-full = ap length e ∙ packed-length (opposite (netOf lent)) (opposite-local (netOf lent)) _ (cleared 128 0) n ∙ cleared-length 128 0
-
-  pub sides-are : (b : Bool) → b ≡ not (foundPair (sameMark (netOf lent) (at mark)) n) → b ≡ hasSides (netOf lent) n
-  unfolding hasSides
-  sides-are b h = rw e at h
 
   pub order-is : (order after : List ℕ) → after ≡ twoSided n (λ k. eqb (at mark k) 2) order → after ≡ twoSided n (isHigh (netOf lent) n) order
   unfolding isHigh

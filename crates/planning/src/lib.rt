@@ -29,8 +29,7 @@ pub fn two_sides(n: usize, widths: &[u16], guards: &[u8], order: &mut [u8]) -> S
         };
     }
     let mut mark = [0u8; rules::PATHS];
-    sides::mark_sides(n, guards, &mut mark);
-    if sides::are_sides(n, guards, &mark) {
+    if sides::find_sides(n, guards, &mut mark) {
         sides::order_sides(n, &mark, order);
         let low = sides::low_paths(n, &mark);
         return Sided {
@@ -143,8 +142,7 @@ fn chosen_plan(
     ensures { λ r. ⌜ left r (now (order .exit), now (starts .exit)) ≡ donePlan (netOf (lend (now (widths .entry)) (now (guards .entry)))) n (now (order .entry)) (now (starts .entry)) seed rounds ⌝ }
 {
     let mut mark = [0u8; rules::PATHS];
-    sides::mark_sides(n, guards, &mut mark);
-    if sides::are_sides(n, guards, &mark) {
+    if sides::find_sides(n, guards, &mut mark) {
         return sided_plan(n, widths, guards, &mark, order, starts);
     }
     greedy::greedy_order(n, widths, guards, order);

@@ -8,7 +8,7 @@ ghost use lib.ListN.{length};
 ghost use Rattle.rules.specs.Tables.{at, cleared, Lent};
 ghost use Rattle.rules.specs.Scan.{found, foundPair};
 ghost use Rattle.rules.specs.Plan.{netOf};
-ghost use Rattle.rules.specs.Sides.{marks, sameMark, twoSided, lowSide};
+ghost use Rattle.rules.specs.Sides.{marks, sameMark, hasSides, twoSided, lowSide};
 ghost use Rattle.table_laws.specs.Updates.{Updated};
 ghost use Rattle.plan_laws.specs.Spreading.{Spread};
 
@@ -35,7 +35,7 @@ fn spread(n: usize, c: usize, value: u16, guards: &[u8], table: &mut [u16])
 
 // The mark of each path: 1 is low, 2 is high. The next path is one in conflict with a marked path wherever there is one (key 0), else the
 // lowest number left (key 1). It gets the mark that is asked of it: the other mark than such a path has, and 1 where it begins a connected part.
-pub fn mark_sides(n: usize, guards: &[u8], mark: &mut [u8])
+fn mark_sides(n: usize, guards: &[u8], mark: &mut [u8])
     requires { ⌜ (n ≤ 128) × ((length (now guards) ≡ 16384) × (now mark ≡ cleared 128 0)) ⌝ }
     ensures { λ _. ⌜ ((lent : Lent) → lent .guards ≡ now (guards .entry) → now (mark .exit) ≡ marks (netOf lent) n) ⌝ }
 {
@@ -84,7 +84,7 @@ fn row_alike(n: usize, i: usize, guards: &[u8], mark: &[u8]) -> bool
 }
 
 // There are two sides exactly where no conflict joins two paths of one mark.
-pub fn are_sides(n: usize, guards: &[u8], mark: &[u8]) -> bool
+fn are_sides(n: usize, guards: &[u8], mark: &[u8]) -> bool
     requires { ⌜ (n ≤ 128) × ((length (now guards) ≡ 16384) × (length (now mark) ≡ 128)) ⌝ }
     ensures { λ r. ⌜ ((lent : Lent) → lent .guards ≡ now (guards .entry) → r ≡ not (foundPair (sameMark (netOf lent) (at (now (mark .entry)))) n)) ⌝ }
 {
@@ -96,6 +96,15 @@ pub fn are_sides(n: usize, guards: &[u8], mark: &[u8]) -> bool
         i += 1;
     }
     true
+}
+
+// Marks each path of a cleared table, and tells whether the marks are two sides.
+pub fn find_sides(n: usize, guards: &[u8], mark: &mut [u8]) -> bool
+    requires { ⌜ (n ≤ 128) × ((length (now guards) ≡ 16384) × (now mark ≡ cleared 128 0)) ⌝ }
+    ensures { λ r. ⌜ ((lent : Lent) → lent .guards ≡ now (guards .entry) → (now (mark .exit) ≡ marks (netOf lent) n) × (r ≡ hasSides (netOf lent) n)) ⌝ }
+{
+    mark_sides(n, guards, mark);
+    are_sides(n, guards, mark)
 }
 
 // 1 for a high path, 0 for a low one.

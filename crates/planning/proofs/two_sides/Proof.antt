@@ -1,12 +1,10 @@
 use native.Mathlib.Omega.{arith}
 use mathlib.Core.Path.{_≡_, refl, sym, ap, _∙_}
 use Rattle.rules.specs.Tables.{lend}
-use Rattle.rules.specs.Plan.{netOf}
-use Rattle.rules.specs.Sides.{hasSides}
 use Rattle.rules.specs.Numbers.{sizeFault, lentFault}
 use Rattle.table_laws.specs.Chains.{size-is}
 use Rattle.plan_laws.specs.Answers.{Sidable}
-use Rattle.planning.proofs.Outcomes.{blank, marks-full, sides-are, order-is, low-is, two-refused, two-clear, two-done, two-none}
+use Rattle.planning.proofs.Outcomes.{blank, marks-full, order-is, low-is, two-refused, two-clear, two-done, two-none}
 use borrow.Author.Needs.{needs}
 use Rattle.planning.proofs.two_sides.Statement.{statement}
 use Rattle.planning.proofs.two_sides.Tie as tie
@@ -22,12 +20,6 @@ sidable c =
     let a = c .before .before .before .before .before .before .before .args in
     two-clear (a .n) (lend (a .widths .now) (a .guards .now)) (a .order .now) _ (tested (c .before .before)) (c .if1 .left)
 
--- 9
-sided : (c : tie.After-are-sides) → let a = c .before .before .before .before .before .before .before .before .before .before .before .before .args in c .are-sides .result ≡ hasSides (netOf (lend (a .widths .now) (a .guards .now))) (a .n)
-sided c =
-    let a = c .before .before .before .before .before .before .before .before .before .before .before .before .args in
-    sides-are (a .n) (lend (a .widths .now) (a .guards .now)) _ (c .before .before .before .mark-sides .ensures (lend (a .widths .now) (a .guards .now)) refl) _ (c .are-sides .ensures (lend (a .widths .now) (a .guards .now)) refl)
-
 size-fault-requires : tie.Need-size-fault-requires
 size-fault-requires c κs = search needs
 
@@ -39,53 +31,43 @@ returns c =
     let a = c .before .before .before .before .before .before .before .args in
     two-refused (a .n) (lend (a .widths .now) (a .guards .now)) (a .order .now) _ (tested (c .before .before)) (c .if1 .taken)
 
-slice-aggregate-mark-sides : tie.Need-slice-aggregate-mark-sides
-slice-aggregate-mark-sides c = search needs
+slice-aggregate-find-sides : tie.Need-slice-aggregate-find-sides
+slice-aggregate-find-sides c = search needs
 
-mark-sides-requires : tie.Need-mark-sides-requires
-mark-sides-requires c κs = let w = sidable (c .before) .network in (w .few, (w .guardsSize, blank))
-
-slice-aggregate-are-sides : tie.Need-slice-aggregate-are-sides
-slice-aggregate-are-sides c = search needs
-
-are-sides-requires : tie.Need-are-sides-requires
-are-sides-requires c κs =
-    let w = sidable (c .before .before .before .before) .network in
-    let a = c .before .before .before .before .before .before .before .before .before .before .before .args in
-    (w .few, (w .guardsSize, marks-full (a .n) (lend (a .widths .now) (a .guards .now)) _ (c .before .before .mark-sides .ensures (lend (a .widths .now) (a .guards .now)) refl)))
+find-sides-requires : tie.Need-find-sides-requires
+find-sides-requires c κs = let w = sidable (c .before) .network in (w .few, (w .guardsSize, blank))
 
 slice-aggregate-order-sides : tie.Need-slice-aggregate-order-sides
 slice-aggregate-order-sides c = search needs
 
 order-sides-requires : tie.Need-order-sides-requires
 order-sides-requires c κs =
-    let p = sidable (c .before .before .before .before .before .before .before .before) in
-    let a = c .before .before .before .before .before .before .before .before .before .before .before .before .before .before .before .args in
-    (p .network .few, (marks-full (a .n) (lend (a .widths .now) (a .guards .now)) _ (c .before .before .before .before .before .before .mark-sides .ensures (lend (a .widths .now) (a .guards .now)) refl), omega (arith, p .network .few, p .orderSize)))
+    let p = sidable (c .before .before .before .before .before .before) in
+    let a = c .before .before .before .before .before .before .before .before .before .before .before .before .before .args in
+    (p .network .few, (marks-full (a .n) (lend (a .widths .now) (a .guards .now)) _ (c .before .before .before .before .find-sides .ensures (lend (a .widths .now) (a .guards .now)) refl .0), omega (arith, p .network .few, p .orderSize)))
 
 slice-aggregate-low-paths : tie.Need-slice-aggregate-low-paths
 slice-aggregate-low-paths c = search needs
 
 low-paths-requires : tie.Need-low-paths-requires
 low-paths-requires c κs =
-    let w = sidable (c .before .before .before .before .before .before .before .before .before .before .before .before) .network in
-    let a = c .before .before .before .before .before .before .before .before .before .before .before .before .before .before .before .before .before .before .before .args in
-    (w .few, marks-full (a .n) (lend (a .widths .now) (a .guards .now)) _ (c .before .before .before .before .before .before .before .before .before .before .mark-sides .ensures (lend (a .widths .now) (a .guards .now)) refl))
+    let a = c .before .before .before .before .before .before .before .before .before .before .before .before .before .before .before .before .before .args in
+    (sidable (c .before .before .before .before .before .before .before .before .before .before) .network .few, marks-full (a .n) (lend (a .widths .now) (a .guards .now)) _ (c .before .before .before .before .before .before .before .before .find-sides .ensures (lend (a .widths .now) (a .guards .now)) refl .0))
 
 same-length : tie.Need-same-length
 same-length c = search needs
 
 returns-2 : tie.Need-returns-2
 returns-2 c =
-    let a = c .before .before .before .before .before .before .before .before .before .before .before .before .before .before .before .before .before .before .before .before .args in
-    let m = c .before .before .before .before .before .before .before .before .before .before .before .mark-sides .ensures (lend (a .widths .now) (a .guards .now)) refl in
-    two-done (a .n) (lend (a .widths .now) (a .guards .now)) (a .order .now) _ (tested (c .before .before .before .before .before .before .before .before .before .before .before .before .before .before .before)) (c .before .before .before .before .before .before .before .before .before .before .before .before .before .if1 .left) (sym (sided (c .before .before .before .before .before .before .before .before)) ∙ c .before .before .before .before .before .before .before .if2 .taken) _ _
-    (low-is (a .n) (lend (a .widths .now) (a .guards .now)) _ m _ (c .low-paths .ensures)) (order-is (a .n) (lend (a .widths .now) (a .guards .now)) _ m (a .order .now) _ (c .before .before .before .before .order-sides .ensures))
+    let a = c .before .before .before .before .before .before .before .before .before .before .before .before .before .before .before .before .before .before .args in
+    let m = c .before .before .before .before .before .before .before .before .before .find-sides .ensures (lend (a .widths .now) (a .guards .now)) refl in
+    two-done (a .n) (lend (a .widths .now) (a .guards .now)) (a .order .now) _ (tested (c .before .before .before .before .before .before .before .before .before .before .before .before .before)) (c .before .before .before .before .before .before .before .before .before .before .before .if1 .left) (sym (m .1) ∙ c .before .before .before .before .before .before .before .if2 .taken) _ _
+    (low-is (a .n) (lend (a .widths .now) (a .guards .now)) _ (m .0) _ (c .low-paths .ensures)) (order-is (a .n) (lend (a .widths .now) (a .guards .now)) _ (m .0) (a .order .now) _ (c .before .before .before .before .order-sides .ensures))
 
 returns-3 : tie.Need-returns-3
 returns-3 c =
-    let a = c .before .before .before .before .before .before .before .before .before .before .before .before .before .args in
-    two-none (a .n) (lend (a .widths .now) (a .guards .now)) (a .order .now) _ (tested (c .before .before .before .before .before .before .before .before)) (c .before .before .before .before .before .before .if1 .left) (sym (sided (c .before)) ∙ c .if2 .left)
+    let a = c .before .before .before .before .before .before .before .before .before .before .before .args in
+    two-none (a .n) (lend (a .widths .now) (a .guards .now)) (a .order .now) _ (tested (c .before .before .before .before .before .before)) (c .before .before .before .before .if1 .left) (sym (c .before .before .find-sides .ensures (lend (a .widths .now) (a .guards .now)) refl .1) ∙ c .if2 .left)
 
 pub two-sides-spec : {M : Type 1} → statement M
 two-sides-spec =
@@ -94,10 +76,8 @@ two-sides-spec =
     size-fault-requires
     lent-fault-requires
     returns
-    slice-aggregate-mark-sides
-    mark-sides-requires
-    slice-aggregate-are-sides
-    are-sides-requires
+    slice-aggregate-find-sides
+    find-sides-requires
     slice-aggregate-order-sides
     order-sides-requires
     slice-aggregate-low-paths
