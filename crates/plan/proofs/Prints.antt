@@ -195,13 +195,6 @@ module _ (input labels widths guards starts : List ℕ) (a : length labels ≡ 1
   unfolding printed
   prints-plan z = sym (rw (← same, eq-eqb (r .number) 0 z))
 
--- what was written into the lent text at its front
-pub front : (out after w : List ℕ) (r : ℕ) → (r ≡ 0 + length w) × (after ≡ sets out 0 w) → length w ≤ length out → take r after ≡ w
-front out after w r h l =
-    let e : r ≡ length w = omega (arith, h .0) in
-    let v : after ≡ w ++ drop (length w) out = h .1 ∙ sets-eq w out 0 (omega arith) ∙ ap (λ (k : ℕ). w ++ drop k out) (let g : 0 + length w ≡ length w = omega arith in g) in
-    rw (e, v) (take-append-seam w (drop (length w) out))
-
 -- the sheet that is written does not depend on what stood in the lent text
 abbrev sheetOf : Left SheetWritten (List ℕ) → List ℕ
 sheetOf w = take (w .answer .length) (w .tables)
@@ -263,22 +256,3 @@ prints-within n labels widths guards starts out out′ w h f =
 pub blank-order : replicate 128 0 ≡ cleared 128 0
 unfolding cleared
 blank-order = refl
-
--- how long a refusal's line is
-pub refusal-length : (number line : ℕ) → length (refusalText number line) ≡ 8 + length (numeral number) + 6 + length (numeral line) + 1
-unfolding refusalText
-refusal-length number line =
-    omega (arith, length-append (numeral number) (bytes " line " ++ (numeral line ++ lineFeed)), length-append (numeral line) lineFeed)
-
-pub refusal-within : (number line : ℕ) → number < 100000 → line < 100000 → length (refusalText number line) ≤ 45489
-refusal-within number line a b = omega (arith, refusal-length number line, digits-few number a, digits-few line b)
-
--- the pieces of a refusal's line, one after the other
-pub refusal-wrote : (number line : ℕ) (l₀ l₁ l₂ l₃ l₄ l₅ : List ℕ) (p q e f r : ℕ) → (p ≡ 0 + 8) × (l₁ ≡ sets l₀ 0 (bytes "refused ")) → (q ≡ p + length (numeral number)) × (l₂ ≡ sets l₁ p (numeral number))
-    → (e ≡ q + 6) × (l₃ ≡ sets l₂ q (bytes " line ")) → (f ≡ e + length (numeral line)) × (l₄ ≡ sets l₃ e (numeral line)) → (r ≡ f + 1) × (l₅ ≡ sets l₄ f lineFeed)
-    → (r ≡ 0 + length (refusalText number line)) × (l₅ ≡ sets l₀ 0 (refusalText number line))
-unfolding refusalText
-refusal-wrote number line l₀ l₁ l₂ l₃ l₄ l₅ p q e f r h₁ h₂ h₃ h₄ h₅ =
-    both-pieces l₀ l₁ l₅ 0 p r (bytes "refused ") (numeral number ++ (bytes " line " ++ (numeral line ++ lineFeed))) h₁
-    (both-pieces l₁ l₂ l₅ p q r (numeral number) (bytes " line " ++ (numeral line ++ lineFeed)) h₂
-    (both-pieces l₂ l₃ l₅ q e r (bytes " line ") (numeral line ++ lineFeed) h₃ (both-pieces l₃ l₄ l₅ e f r (numeral line) lineFeed h₄ h₅)))

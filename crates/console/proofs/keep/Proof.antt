@@ -4,9 +4,9 @@ use lib.ListN.{length}
 use borrow.Author.Needs.{needs}
 use native.Mathlib.Omega.{arith}
 use denote.Ref.{now}
-use Rattle.plan.proofs.Keeping.{Keeping, keep-first, keep-more, keep-full, keep-end}
-use Rattle.plan.proofs.keep.Statement.{statement}
-use Rattle.plan.proofs.keep.Tie as tie
+use Rattle.console.proofs.Keeping.{Keeping, keep-first, keep-more, keep-full, keep-end}
+use Rattle.console.proofs.keep.Statement.{statement}
+use Rattle.console.proofs.keep.Tie as tie
 
 abbrev Inv-loop : tie.InvT-loop
 Inv-loop text₀ have came k₀ j₀ text k j = Keeping text₀ have came text k j
@@ -21,7 +21,7 @@ same-length : tie.Need-same-length Inv-loop μ-loop
 same-length c = c .before .before .loop .inv .same
 
 returns : tie.Need-returns Inv-loop μ-loop
-returns c = (omega (arith, c .before .before .loop .inv .same, c .before .before .loop .inv .within), keep-full (now (c .before .before .before .args .text)) (now (c .before .before .before .args .came)) (c .before .before .loop .text) (c .before .before .before .args .have) (c .before .before .loop .k) (c .before .before .loop .j) (c .before .before .loop .inv) (omega arith))
+returns c = keep-full (now (c .before .before .before .args .text)) (now (c .before .before .before .args .came)) (c .before .before .loop .text) (c .before .before .before .args .have) (c .before .before .loop .k) (c .before .before .loop .j) (c .before .before .loop .inv) (omega arith)
 
 shared-slice-read-text : tie.Need-shared-slice-read-text Inv-loop μ-loop
 shared-slice-read-text c = search needs
@@ -45,7 +45,7 @@ same-length-2 : tie.Need-same-length-2 Inv-loop μ-loop
 same-length-2 c = c .before .loop .inv .same
 
 returns-2 : tie.Need-returns-2 Inv-loop μ-loop
-returns-2 c = (omega (arith, c .before .loop .inv .same, c .before .loop .inv .within), keep-end (now (c .before .before .args .text)) (now (c .before .before .args .came)) (c .before .loop .text) (c .before .before .args .have) (c .before .loop .k) (c .before .loop .j) (c .before .loop .inv) (omega arith))
+returns-2 c = keep-end (now (c .before .before .args .text)) (now (c .before .before .args .came)) (c .before .loop .text) (c .before .before .args .have) (c .before .loop .k) (c .before .loop .j) (c .before .loop .inv) (omega arith)
 
 pub keep-spec : {M : Type 1} → statement M
 keep-spec =

@@ -2,9 +2,9 @@ use native.Mathlib.Omega.{arith}
 use borrow.Author.Needs.{needs}
 use denote.Ref.{now}
 use Rattle.laws.specs.Writes.{digits-few}
-use Rattle.plan.proofs.Prints.{refusal-wrote}
-use Rattle.plan.proofs.refuse.Statement.{statement}
-use Rattle.plan.proofs.refuse.Tie as tie
+use Rattle.console.proofs.Refusal.{refusal-wrote, refusal-within}
+use Rattle.console.proofs.refuse.Statement.{statement}
+use Rattle.console.proofs.refuse.Tie as tie
 
 slice-aggregate-put-word : tie.Need-slice-aggregate-put-word
 slice-aggregate-put-word c = search needs
@@ -34,7 +34,10 @@ same-length : tie.Need-same-length
 same-length c = search needs
 
 returns : tie.Need-returns
-returns c = refusal-wrote (c .before .before .before .before .before .before .before .before .before .before .before .before .before .before .before .before .before .before .before .before .before .before .before .before .args .number) (c .before .before .before .before .before .before .before .before .before .before .before .before .before .before .before .before .before .before .before .before .before .before .before .before .args .line) (now (c .before .before .before .before .before .before .before .before .before .before .before .before .before .before .before .before .before .before .before .before .before .before .before .before .args .out)) (c .before .before .before .before .before .before .before .before .before .before .before .before .before .before .before .before .before .before .before .before .put-word .last .0) (c .before .before .before .before .before .before .before .before .before .before .before .before .before .before .before .before .put-number .last .0) (c .before .before .before .before .before .before .before .before .before .before .before .put-word2 .last .0) (c .before .before .before .before .before .before .before .put-number2 .last .0) (c .before .before .put-word3 .last .0) (c .before .before .before .before .before .before .before .before .before .before .before .before .before .before .before .before .before .before .before .before .put-word .result) (c .before .before .before .before .before .before .before .before .before .before .before .before .before .before .before .before .put-number .result) (c .before .before .before .before .before .before .before .before .before .before .before .put-word2 .result) (c .before .before .before .before .before .before .before .put-number2 .result) (c .before .before .put-word3 .result) (c .before .before .before .before .before .before .before .before .before .before .before .before .before .before .before .before .before .before .before .before .put-word .ensures) (c .before .before .before .before .before .before .before .before .before .before .before .before .before .before .before .before .put-number .ensures) (c .before .before .before .before .before .before .before .before .before .before .before .put-word2 .ensures) (c .before .before .before .before .before .before .before .put-number2 .ensures) (c .before .before .put-word3 .ensures)
+returns c =
+    let s = c .before .before .before .before .before .before .before .before .before .before .before .before .before .before .before .before .before .before .before .before .before .before .before .before in
+    let w = refusal-wrote (s .args .number) (s .args .line) (now (s .args .out)) (c .before .before .before .before .before .before .before .before .before .before .before .before .before .before .before .before .before .before .before .before .put-word .last .0) (c .before .before .before .before .before .before .before .before .before .before .before .before .before .before .before .before .put-number .last .0) (c .before .before .before .before .before .before .before .before .before .before .before .put-word2 .last .0) (c .before .before .before .before .before .before .before .put-number2 .last .0) (c .before .before .put-word3 .last .0) (c .before .before .before .before .before .before .before .before .before .before .before .before .before .before .before .before .before .before .before .before .put-word .result) (c .before .before .before .before .before .before .before .before .before .before .before .before .before .before .before .before .put-number .result) (c .before .before .before .before .before .before .before .before .before .before .before .put-word2 .result) (c .before .before .before .before .before .before .before .put-number2 .result) (c .before .before .put-word3 .result) (c .before .before .before .before .before .before .before .before .before .before .before .before .before .before .before .before .before .before .before .before .put-word .ensures) (c .before .before .before .before .before .before .before .before .before .before .before .before .before .before .before .before .put-number .ensures) (c .before .before .before .before .before .before .before .before .before .before .before .put-word2 .ensures) (c .before .before .before .before .before .before .before .put-number2 .ensures) (c .before .before .put-word3 .ensures) in
+    (w, omega (arith, w .0, refusal-within (s .args .number) (s .args .line) (s .pre .0) (s .pre .1)))
 
 pub refuse-spec : {M : Type 1} → statement M
 refuse-spec =
