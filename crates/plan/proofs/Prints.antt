@@ -20,6 +20,7 @@ use Rattle.rules.specs.Writing.{sheetText, badLabel, labelTwice, pairs, hasPlan
 use Rattle.rules.specs.Numbers.{_orElse_, noFault, refuseIf, scan, badStart, sizeFault, networkSizes, networkFault, sheetSizes, writeFault}
 use Rattle.rules.specs.Calls.{Left, left, unless, planning, readOutcome, reading, writing}
 use Rattle.rules.specs.Program.{refusalText, plannedText, printed}
+use Rattle.plan.specs.Note.{noteOf, noted}
 use Rattle.laws.specs.Tables.{cleared-length}
 use Rattle.laws.specs.Writes.{both-pieces, digits-few}
 use Rattle.laws.specs.Faults.{or-clear, refuse-clear, size-good}
@@ -160,6 +161,44 @@ unfolding readOutcome
 outcome-short (halt number line) s = s
 outcome-short (done t l) s = (omega arith, omega arith)
 
+-- a sheet that is read has at most 128 paths
+abbrev Holds : {T : Type 0} → (T → Type 0) → Section T → Type 0
+Holds P (halt number line) = Unit {0}
+Holds P (done t l) = P t
+
+after-holds : {T U : Type 0} (P : U → Type 0) (x : Section T) (go : T → List ℕ → Section U) → ((t : T) (l : List ℕ) → Holds P (go t l)) → Holds P (after x go)
+unfolding after
+after-holds P (halt number line) go h = tt
+after-holds P (done t l) go h = h t l
+
+counted-holds : {T : Type 0} (P : T → Type 0) (p : Parsed ℕ) (isRight : ℕ → Bool) (line : ℕ) (go : ℕ → List ℕ → Section T)
+    → ((n : ℕ) (l : List ℕ) → isRight n ≡ true → Holds P (go n l)) → Holds P (counted p isRight line go)
+unfolding counted
+counted-holds P none isRight line go h = tt
+counted-holds P (some n l) isRight line go h = pick (isRight n) refl
+  where
+    pick : (x : Bool) → isRight n ≡ x → Holds P (cond x (go n l) (halt 1 line))
+    pick true e = h n l e
+    pick false e = tt
+
+abbrev FewPaths : ℕ × List ℕ × List ℕ × List ℕ × List ℕ → Type 0
+FewPaths t = t .0 ≤ 128
+
+sheet-few : (labels widths guards starts l : List ℕ) → Holds FewPaths (sheetFrom labels widths guards starts l)
+unfolding sheetFrom
+sheet-few labels widths guards starts l =
+    counted-holds FewPaths (countLine pathsWord l) (λ n. leb 1 n && leb n 128) 1
+    (λ n l₁. after (lines pathStep 2 n 0 (labels, widths) l₁) (λ t l₂. after (guardsPart n (t .0) guards starts l₂) (λ u l₃. done (n, t .0, t .1, u .0, u .1) [])))
+    (λ n l₁ e. after-holds FewPaths (lines pathStep 2 n 0 (labels, widths) l₁)
+    (λ t l₂. after (guardsPart n (t .0) guards starts l₂) (λ u l₃. done (n, t .0, t .1, u .0, u .1) []))
+    (λ t l₂. after-holds FewPaths (guardsPart n (t .0) guards starts l₂) (λ u l₃. done (n, t .0, t .1, u .0, u .1) [])
+    (λ u l₃. leb-true n 128 (and-right (leb 1 n) (leb n 128) e))))
+
+outcome-few : (x : Section (ℕ × List ℕ × List ℕ × List ℕ × List ℕ)) → Holds FewPaths x → readOutcome x .answer .n ≤ 128
+unfolding readOutcome
+outcome-few (halt number line) s = omega arith
+outcome-few (done t l) s = s
+
 -- tables of their sizes are read over alike, whatever stands in them
 sizes-none : (labels widths guards starts : List ℕ) → length labels ≡ 1024 → length widths ≡ 128 → length guards ≡ 16384 → length starts ≡ 128
     → sheetSizes labels widths guards starts ≡ noFault
@@ -194,6 +233,22 @@ module _ (input labels widths guards starts : List ℕ) (a : length labels ≡ 1
   pub prints-plan : r .number ≡ 0 → plannedText (r .n) labels′ widths′ guards′ starts′ ≡ printed input
   unfolding printed
   prints-plan z = sym (rw (← same, eq-eqb (r .number) 0 z))
+
+  pub few-paths : r .n ≤ 128
+  few-paths =
+      let x = sheetFrom (cleared 1024 0) (cleared 128 0) (cleared 16384 255) (cleared 128 0) input in
+      let q = e ∙ reading-even input labels widths guards starts a b c d in
+      let s = outcome-few x (sheet-few (cleared 1024 0) (cleared 128 0) (cleared 16384 255) (cleared 128 0) input) in
+      let p : r .n ≡ readOutcome x .answer .n = ap (λ (w : Left SheetRead Tables). w .answer .n) q in
+      omega (arith, p, s)
+
+  pub notes-nothing : r .number ≢ 0 → [] ≡ noted input
+  unfolding noted
+  notes-nothing z = sym (rw (← same, ne-eqb (r .number) 0 z))
+
+  pub notes-plan : r .number ≡ 0 → noteOf (r .n) widths′ guards′ starts′ ≡ noted input
+  unfolding noted
+  notes-plan z = sym (rw (← same, eq-eqb (r .number) 0 z))
 
 -- the sheet that is written does not depend on what stood in the lent text
 abbrev sheetOf : Left SheetWritten (List ℕ) → List ℕ
