@@ -82,6 +82,30 @@ fn is_verbose(count: usize, word: &[u8]) -> bool {
     }
 }
 
+// Prints what is made of the input.
+fn respond(input: &[u8], verbose: bool) {
+    let mut labels = [0u8; rules::LABELS];
+    let mut widths = [0u16; rules::PATHS];
+    let mut guards = [0u8; rules::CELLS];
+    let mut starts = [0u16; rules::PATHS];
+    let mut out = [0u8; rules::SHEET_MOST];
+    let mut line = [0u8; 80];
+    let made = answer(
+        input,
+        &mut labels,
+        &mut widths,
+        &mut guards,
+        &mut starts,
+        &mut out,
+        &mut line,
+    );
+    let m = made.out;
+    let e = made.line;
+    if console::print(STDOUT_FILENO, &out[..m], b"plan: standard output") && verbose {
+        console::print(STDERR_FILENO, &line[..e], b"plan: standard error");
+    }
+}
+
 // The text holds the first 65,536 bytes of the input, more than the longest sheet has. Its answer is the answer for the whole input, as
 // `answer` promises.
 fn run(verbose: bool) {
@@ -92,29 +116,7 @@ fn run(verbose: bool) {
         return;
     }
     let have = input.length;
-    let mut labels = [0u8; rules::LABELS];
-    let mut widths = [0u16; rules::PATHS];
-    let mut guards = [0u8; rules::CELLS];
-    let mut starts = [0u16; rules::PATHS];
-    let mut out = [0u8; rules::SHEET_MOST];
-    let mut line = [0u8; 80];
-    let made = answer(
-        &text[..have],
-        &mut labels,
-        &mut widths,
-        &mut guards,
-        &mut starts,
-        &mut out,
-        &mut line,
-    );
-    let m = made.out;
-    if !console::print(STDOUT_FILENO, &out[..m], b"plan: standard output") {
-        return;
-    }
-    let e = made.line;
-    if verbose {
-        console::print(STDERR_FILENO, &line[..e], b"plan: standard error");
-    }
+    respond(&text[..have], verbose);
 }
 
 fn main() {
