@@ -1,24 +1,27 @@
-use borrow.Author.Needs.{needs}
 use Prim.Native.Nat.{_≤_, _-_}
 use mathlib.Core.Path.{_≡_}
 use lib.ListN.{length}
-use Rattle.figures.proofs.plans.put_line.Statement.{statement}
-use Rattle.figures.proofs.plans.put_line.Tie as tie
+use borrow.Author.Needs.{needs}
+use Rattle.figures.proofs.fields.put_guards.Statement.{statement}
+use Rattle.figures.proofs.fields.put_guards.Tie as tie
 
 abbrev Inv-loop : tie.InvT-loop
-Inv-loop guards₀ n k₀ guards k = (1 ≤ k) × (length guards ≡ length guards₀)
+Inv-loop guards₀ n i j v k₀ guards k = (length guards ≡ length guards₀) × (k ≤ n)
 
 abbrev μ-loop : tie.MeasureT-loop
-μ-loop guards₀ n k₀ guards k = n - k
+μ-loop guards₀ n i j v k₀ guards k = n - k
 
 loop-holds : tie.Need-loop-holds Inv-loop μ-loop
 loop-holds c = search needs
 
-sub-put-conflict : tie.Need-sub-put-conflict Inv-loop μ-loop
-sub-put-conflict c = search needs
+add-put-guard : tie.Need-add-put-guard Inv-loop μ-loop
+add-put-guard c = search needs
 
-put-conflict-requires : tie.Need-put-conflict-requires Inv-loop μ-loop
-put-conflict-requires c κs = search needs
+add-put-guard-2 : tie.Need-add-put-guard-2 Inv-loop μ-loop
+add-put-guard-2 c = search needs
+
+put-guard-requires : tie.Need-put-guard-requires Inv-loop μ-loop
+put-guard-requires c κs = search needs
 
 add-k : tie.Need-add-k Inv-loop μ-loop
 add-k c = search needs
@@ -35,15 +38,16 @@ same-length c = search needs
 returns : tie.Need-returns Inv-loop μ-loop
 returns c = search needs
 
-pub put-line-spec : {M : Type 1} → statement M
-put-line-spec =
+pub put-guards-spec : {M : Type 1} → statement M
+put-guards-spec =
     tie.close
     (tie.spec
     Inv-loop
     μ-loop
     loop-holds
-    sub-put-conflict
-    put-conflict-requires
+    add-put-guard
+    add-put-guard-2
+    put-guard-requires
     add-k
     loop-less
     loop-again
