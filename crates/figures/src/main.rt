@@ -1,17 +1,13 @@
 // A test program: figures as data. Each line of standard input is a case: its name, a public call, and the numbers and tables that it is lent.
 // Each case prints a line: the name, what the call answers, and the whole of each table that the call may write. What it has to print
 // stands in `stdout`, and was not made by the code under test. The notation is explained at the head of `stdin`.
-//
-// Only safety is proved here: what does not stand in a line, or does not fit, counts as its usual value.
-mod fields;
-mod show;
-
-use fields::has;
-use fields::lent;
-use fields::number;
-use fields::numbers;
+use cases::fields;
+use cases::fields::has;
+use cases::fields::lent;
+use cases::fields::number;
+use cases::fields::numbers;
+use cases::show;
 use libc::STDIN_FILENO;
-ghost use Prim.Native.Nat.{_<_};
 
 fn judge(n: usize, widths: &[u16], guards: &[u8], starts: &[u16]) {
     let r = packing::judge(n, widths, guards, starts);

@@ -5,7 +5,7 @@ ghost use mathlib.Core.Path.{_≡_};
 ghost use Prim.Native.Nat.{_≤_, _<_};
 ghost use lib.ListN.{length};
 
-// A number, and the place after it; 0 where there is none.
+// A number, and the place of the mark after it; 0 and the end of the line where there is none.
 struct Item {
     value: usize,
     next: usize,

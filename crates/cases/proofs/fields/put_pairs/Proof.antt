@@ -2,8 +2,8 @@ use Prim.Native.Nat.{_≤_, _-_}
 use mathlib.Core.Path.{_≡_}
 use lib.ListN.{length}
 use borrow.Author.Needs.{needs}
-use Rattle.figures.proofs.fields.put_pairs.Statement.{statement}
-use Rattle.figures.proofs.fields.put_pairs.Tie as tie
+use Rattle.cases.proofs.fields.put_pairs.Statement.{statement}
+use Rattle.cases.proofs.fields.put_pairs.Tie as tie
 
 abbrev Inv-loop : tie.InvT-loop
 Inv-loop line n guards₀ place₀ k₀ guards place k = (length guards ≡ length guards₀) × (k ≤ length line)

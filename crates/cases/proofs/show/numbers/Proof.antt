@@ -2,8 +2,8 @@ use Prim.Native.Nat.{_≤_, _-_}
 use mathlib.Core.Path.{_≡_}
 use lib.ListN.{length}
 use borrow.Author.Needs.{needs}
-use Rattle.figures.proofs.show.numbers.Statement.{statement}
-use Rattle.figures.proofs.show.numbers.Tie as tie
+use Rattle.cases.proofs.show.numbers.Statement.{statement}
+use Rattle.cases.proofs.show.numbers.Tie as tie
 
 abbrev Inv-loop : tie.InvT-loop
 Inv-loop word table first₀ k₀ first k = (first ≤ k) × (k ≤ length table)

@@ -2,8 +2,8 @@ use Prim.Native.Nat.{_≤_, _-_}
 use mathlib.Core.Path.{_≡_}
 use lib.ListN.{length}
 use borrow.Author.Needs.{needs}
-use Rattle.figures.proofs.fields.put_guards.Statement.{statement}
-use Rattle.figures.proofs.fields.put_guards.Tie as tie
+use Rattle.cases.proofs.fields.put_guards.Statement.{statement}
+use Rattle.cases.proofs.fields.put_guards.Tie as tie
 
 abbrev Inv-loop : tie.InvT-loop
 Inv-loop guards₀ n i j v k₀ guards k = (length guards ≡ length guards₀) × (k ≤ n)

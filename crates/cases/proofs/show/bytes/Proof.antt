@@ -3,8 +3,8 @@ use native.Mathlib.Omega.{arith}
 use denote.Ref.{now}
 use Rattle.io.proofs.Counting.{counts}
 use borrow.Author.Needs.{needs}
-use Rattle.figures.proofs.show.bytes.Statement.{statement}
-use Rattle.figures.proofs.show.bytes.Tie as tie
+use Rattle.cases.proofs.show.bytes.Statement.{statement}
+use Rattle.cases.proofs.show.bytes.Tie as tie
 
 widened-requires : tie.Need-widened-requires
 widened-requires c κs = search needs

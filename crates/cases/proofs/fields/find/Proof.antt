@@ -2,8 +2,8 @@ use Prim.Native.Nat.{_≤_, _-_}
 use mathlib.Core.Path.{_≡_}
 use lib.ListN.{length}
 use borrow.Author.Needs.{needs}
-use Rattle.figures.proofs.fields.find.Statement.{statement}
-use Rattle.figures.proofs.fields.find.Tie as tie
+use Rattle.cases.proofs.fields.find.Statement.{statement}
+use Rattle.cases.proofs.fields.find.Tie as tie
 
 abbrev Inv-loop : tie.InvT-loop
 Inv-loop text from byte i₀ i = (from ≤ i) × (i ≤ length text)

@@ -2,8 +2,8 @@ use Prim.Native.Nat.{_≤_, _-_}
 use mathlib.Core.Path.{_≡_}
 use lib.ListN.{length}
 use borrow.Author.Needs.{needs}
-use Rattle.figures.proofs.fields.bytes.Statement.{statement}
-use Rattle.figures.proofs.fields.bytes.Tie as tie
+use Rattle.cases.proofs.fields.bytes.Statement.{statement}
+use Rattle.cases.proofs.fields.bytes.Tie as tie
 
 abbrev Inv-loop : tie.InvT-loop
 Inv-loop line key wide table₀ k₀ table k = (length table ≡ 129) × (k ≤ 129)

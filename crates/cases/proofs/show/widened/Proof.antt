@@ -2,8 +2,8 @@ use Prim.Native.Nat.{_≤_, _-_}
 use mathlib.Core.Path.{_≡_}
 use lib.ListN.{length}
 use borrow.Author.Needs.{needs}
-use Rattle.figures.proofs.show.widened.Statement.{statement}
-use Rattle.figures.proofs.show.widened.Tie as tie
+use Rattle.cases.proofs.show.widened.Statement.{statement}
+use Rattle.cases.proofs.show.widened.Tie as tie
 
 abbrev Inv-loop : tie.InvT-loop
 Inv-loop table wide₀ k₀ wide k = (length wide ≡ 129) × (k ≤ 129)

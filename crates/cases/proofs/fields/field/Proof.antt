@@ -2,8 +2,8 @@ use Prim.Native.Nat.{_≤_, _-_}
 use mathlib.Core.Path.{_≡_}
 use lib.ListN.{length}
 use borrow.Author.Needs.{needs}
-use Rattle.figures.proofs.fields.field.Statement.{statement}
-use Rattle.figures.proofs.fields.field.Tie as tie
+use Rattle.cases.proofs.fields.field.Statement.{statement}
+use Rattle.cases.proofs.fields.field.Tie as tie
 
 abbrev Inv-loop : tie.InvT-loop
 Inv-loop line key mark place₀ place = place ≤ length line

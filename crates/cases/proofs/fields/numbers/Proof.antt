@@ -2,8 +2,8 @@ use Prim.Native.Nat.{_≤_, _-_}
 use mathlib.Core.Path.{_≡_}
 use lib.ListN.{length}
 use borrow.Author.Needs.{needs}
-use Rattle.figures.proofs.fields.numbers.Statement.{statement}
-use Rattle.figures.proofs.fields.numbers.Tie as tie
+use Rattle.cases.proofs.fields.numbers.Statement.{statement}
+use Rattle.cases.proofs.fields.numbers.Tie as tie
 
 abbrev Inv-loop : tie.InvT-loop
 Inv-loop line key table₀ place₀ k₀ table place k = (length table ≡ 129) × (k ≤ 129)
