@@ -59,9 +59,18 @@ fn calls() -> Vec<Shape> {
         let (name, rest) = head.split_once('(').expect("a call has arguments");
         let (list, rest) = rest.split_once(")->").expect("a call has a result");
         let result = rest.split(|c: char| !c.is_alphanumeric()).next().unwrap_or("");
-        Shape { name: name.into(), parts: parts(list), result: result.into() }
+        Shape { name: name.into(), parts: parts(list), result: outside(result).into() }
     };
     all(&face, "pub extern\"C\"fn ", "{").map(shape).collect()
+}
+
+/// An answer's name outside Rattle, where judging answers what every test does, a `Fault`.
+fn outside(name: &str) -> &str {
+    if name == "Fault" {
+        "Judged"
+    } else {
+        name
+    }
 }
 
 /// The structs that the calls answer.
@@ -69,7 +78,7 @@ fn answers() -> Vec<Shape> {
     let rules = tight(&bare(&text("crates/rules/src/lib.rt")));
     let shape = |head: &str| {
         let (name, list) = head.split_once('{').expect("a struct has fields");
-        Shape { name: name.into(), parts: parts(list), result: String::new() }
+        Shape { name: outside(name).into(), parts: parts(list), result: String::new() }
     };
     let answered = |shape: &Shape| calls().iter().any(|call| call.result == shape.name);
     all(&rules, "pub struct ", "}").map(shape).filter(answered).collect()
@@ -193,10 +202,9 @@ fn constants_agree() {
     assert_eq!(numbers, (0..=16).collect::<Vec<_>>(), "each number has one name");
     let rules = constants("crates/rules/src/lib.rt");
     for (name, value) in &header {
-        let short = name.strip_prefix("REFUSED_").unwrap_or(name);
-        let in_rules = rules.get(short);
-        assert!(is_number(name) || in_rules.is_some(), "crates/rules has no {short}");
-        assert!(in_rules.is_none_or(|v| v == value), "{short} is not {value} in crates/rules");
+        if name != "DONE" {
+            assert_eq!(rules.get(name), Some(value), "{name} in crates/rules");
+        }
     }
 }
 
