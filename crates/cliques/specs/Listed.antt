@@ -3,10 +3,9 @@ use Prim.Native.Nat.{ℕ, _≤_, _<_}
 use mathlib.Core.Path.{_≡_}
 use mathlib.Core.Bool.{Bool, not, _||_}
 use mathlib.Core.List.{List}
-use lib.Dec.{ltb, leb, eqb}
+use lib.Dec.{ltb, eqb}
 use lib.ListN.{length}
 use Rattle.rules.specs.Tables.{at, cell}
-use Rattle.rules.specs.Scan.{found}
 
 -- the first k of a list are paths
 pub record Listed (guards list : List ℕ) (k : ℕ) : Type 0 where

@@ -1,5 +1,5 @@
 -- From what the inner functions of improving answer to the rounds of the definition. Assumes nothing.
-use Prim.Native.Nat.{ℕ, zero, suc, _+_, _≤_, _<_}
+use Prim.Native.Nat.{ℕ, suc, _+_, _≤_, _<_}
 use mathlib.Core.Path.{_≡_, refl, sym, ap, subst, _∙_}
 use mathlib.Core.List.{List}
 use native.Mathlib.Omega.{arith}
@@ -9,12 +9,12 @@ use lib.ListN.{length}
 use borrow.Author.Tests.{lt-ltb, le-ltb}
 use Rattle.rules.specs.Tables.{cleared, Lent}
 use Rattle.rules.specs.Plan.{netOf}
-use Rattle.rules.specs.Packing.{Order, lowest, height}
+use Rattle.rules.specs.Packing.{lowest}
 use Rattle.rules.specs.Planning.{draw, drawnPlace, swapped, Run, stateAfter, tried, round, rounds, improved}
 use Rattle.table_laws.specs.Tables.{cleared-length}
 use Rattle.plan_laws.specs.Answers.{Packable}
 use Rattle.plan_laws.specs.Runs.{run-packable}
-use Rattle.plan_laws.specs.Improve.{swapped-order, swapped-length, swapped-back, place-below, draw-below}
+use Rattle.plan_laws.specs.Improve.{swapped-order, swapped-length, swapped-back}
 use Rattle.rounds.specs.declared.Standing.{Standing}
 use Rattle.rounds.specs.Standing.{runOf, highestOf, Tried}
 

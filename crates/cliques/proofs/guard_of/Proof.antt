@@ -1,6 +1,5 @@
 use native.Mathlib.Omega.{arith}
 use Prim.Native.Nat.{_<_}
-use mathlib.Core.Path.{refl}
 use borrow.Author.Needs.{needs}
 use Rattle.cliques.proofs.guard_of.Statement.{statement}
 use Rattle.cliques.proofs.guard_of.Tie as tie

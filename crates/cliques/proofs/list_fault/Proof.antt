@@ -1,14 +1,14 @@
 use native.Mathlib.Omega.{arith}
-use Prim.Native.Nat.{ℕ, _≤_, _<_}
-use mathlib.Core.Path.{_≡_, refl, sym, ap, _∙_}
+use Prim.Native.Nat.{ℕ, _≤_}
+use mathlib.Core.Path.{_≡_, refl, sym, _∙_}
 use mathlib.Core.Bool.{Bool, true, false, _||_}
 use mathlib.Core.List.{List}
-use borrow.Author.Tests.{lt-ltb, le-ltb}
+use borrow.Author.Tests.{lt-ltb}
 use lib.Dec.{ltb}
 use lib.ListN.{length}
 use Rattle.rules.specs.declared.Fault.{Fault}
 use Rattle.rules.specs.Plan.{Net, netOf}
-use Rattle.rules.specs.Numbers.{fault, noFault, refuseIf, outside, scan, badMember, listFault}
+use Rattle.rules.specs.Numbers.{fault, outside, scan, badMember, listFault}
 use Rattle.table_laws.specs.Faults.{refuse-bad, refuse-not, or-stop, or-on}
 use Rattle.table_laws.specs.Limits.{outside-none}
 use borrow.Author.Needs.{needs}

@@ -1,4 +1,4 @@
-use mathlib.Core.Path.{_≡_, refl, sym, _∙_}
+use mathlib.Core.Path.{refl, sym, _∙_}
 use Rattle.rules.specs.Tables.{lend}
 use Rattle.planning.proofs.Outcomes.{blank, greedy-packable, chosen-sided, chosen-greedy}
 use borrow.Author.Needs.{needs}

@@ -1,4 +1,3 @@
-use mathlib.Core.Path.{refl}
 use Rattle.rules.specs.Tables.{lend}
 use Rattle.planning.proofs.Outcomes.{floor-refused, floorable, floor-done}
 use borrow.Author.Needs.{needs}

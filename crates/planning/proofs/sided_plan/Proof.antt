@@ -1,5 +1,4 @@
 use native.Mathlib.Omega.{arith}
-use mathlib.Core.Path.{_≡_}
 use Rattle.rules.specs.Tables.{lend}
 use Rattle.planning.proofs.Outcomes.{marks-full, order-is, sided-packable, sided-done}
 use borrow.Author.Needs.{needs}

@@ -1,6 +1,4 @@
 use mathlib.Core.Path.{refl, sym, _∙_}
-use lib.Dec.{ltb}
-use native.Mathlib.Omega.{arith}
 use borrow.Author.Tests.{lt-ltb, le-ltb}
 use Rattle.rules.specs.Numbers.{roundsFault}
 use Rattle.table_laws.specs.Faults.{refuse-bad, refuse-not, or-stop, or-on}

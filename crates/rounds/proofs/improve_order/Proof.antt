@@ -2,7 +2,7 @@ use Rattle.rounds.proofs.Kept.{Improving, improving-first, improving-mo
 use native.Mathlib.Omega.{arith}
 use Rattle.rules.specs.Tables.{lend}
 use Prim.Native.Nat.{_≤_, _-_}
-use mathlib.Core.Path.{_≡_, refl, sym, _∙_}
+use mathlib.Core.Path.{_≡_, sym, _∙_}
 use Rattle.rounds.proofs.improve_order.Statement.{statement}
 use Rattle.rounds.proofs.improve_order.Tie as tie
 

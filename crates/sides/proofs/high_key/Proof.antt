@@ -1,4 +1,4 @@
-use borrow.Author.Tests.{lt-ltb, le-ltb, eq-eqb, ne-eqb}
+use borrow.Author.Tests.{eq-eqb, ne-eqb}
 use Rattle.sides.proofs.high_key.Statement.{statement}
 use Rattle.sides.proofs.high_key.Tie as tie
 

@@ -1,10 +1,9 @@
 use native.Mathlib.Omega.{arith}
 use borrow.Author.Needs.{needs}
-use Prim.Native.Nat.{ℕ, _≤_, _-_}
-use mathlib.Core.Path.{refl}
+use Prim.Native.Nat.{_≤_, _-_}
 use mathlib.Core.Bool.{cond}
-use lib.Dec.{ltb, eqb}
-use Rattle.rules.specs.Tables.{at, cell}
+use lib.Dec.{eqb}
+use Rattle.rules.specs.Tables.{at}
 use Rattle.table_laws.specs.Updates.{Updated, update-none, update-more, update-all}
 use Rattle.sides.proofs.high_keys.Statement.{statement}
 use Rattle.sides.proofs.high_keys.Tie as tie

@@ -1,4 +1,4 @@
-use borrow.Author.Tests.{lt-ltb, le-ltb, eq-eqb, ne-eqb}
+use borrow.Author.Tests.{lt-ltb, le-ltb}
 use Rattle.sides.proofs.replaced.Statement.{statement}
 use Rattle.sides.proofs.replaced.Tie as tie
 

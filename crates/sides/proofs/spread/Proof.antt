@@ -1,9 +1,8 @@
 use native.Mathlib.Omega.{arith}
 use borrow.Author.Needs.{needs}
-use Prim.Native.Nat.{ℕ, _≤_, _-_}
-use mathlib.Core.Path.{refl}
+use Prim.Native.Nat.{_≤_, _-_}
 use mathlib.Core.Bool.{cond}
-use lib.Dec.{ltb, eqb}
+use lib.Dec.{ltb}
 use Rattle.rules.specs.Tables.{at, cell}
 use Rattle.table_laws.specs.Updates.{Updated, update-none, update-more, update-all}
 use Rattle.sides.proofs.spread.Statement.{statement}
