@@ -29,7 +29,7 @@ fn fill_numbers(table: &mut [u16], value: u16)
     }
 }
 
-// A cleared table holds 0, that of the guards "no conflict".
+// A cleared table holds 0 in every cell, that of the guards "no conflict".
 fn clear(labels: &mut [u8], widths: &mut [u16], guards: &mut [u8], starts: &mut [u16])
     requires { ⌜ Sized (now labels) (now widths) (now guards) (now starts) ⌝ }
     ensures { λ _. ⌜ Blank (now (labels .exit)) (now (widths .exit)) (now (guards .exit)) (now (starts .exit)) ⌝ }

@@ -17,7 +17,7 @@ pub enum Whole {
     Stop(usize, usize),
 }
 
-// The starts, "if there is a plan": their count, 1 where it is not n, and their lines; "a line left over" is 11.
+// The starts, where there is a plan: their count, 1 where it is not n, and their lines. What stands after them is 11.
 fn starts_part(
     text: &[u8],
     place: usize,
@@ -50,7 +50,7 @@ fn starts_part(
     }
 }
 
-// The guards, "G is 0 to 2,000", and what follows them.
+// The guards: their count, 1 where it is over 2,000, their lines, and what follows them.
 fn guards_part(
     text: &[u8],
     place: usize,
@@ -75,7 +75,7 @@ fn guards_part(
     }
 }
 
-// The paths, "n is 1 to 128", and what follows them.
+// The paths: their count, 1 where it is not 1 to 128, their lines, and what follows them.
 pub fn sheet_parts(
     text: &[u8],
     labels: &mut [u8],
