@@ -129,7 +129,8 @@ function outside(what, n, low, high) {
 function wrong_count(n) {
     if (kind == "paths N") return outside("the number of paths", n, 1, 128)
     if (kind == "guards G") return outside("the number of guards", n, 0, 2000)
-    if (kind == "starts N" && n != paths) return "the sheet has " many(paths, "path") ", so the line is 'starts " paths "'"
+    if (kind == "starts N" && n != paths)
+        return "the sheet has " many(paths, "path") ", so the line is 'starts " paths "'"
     return ""
 }
 

@@ -34,7 +34,7 @@ fn close_search(n: usize, i: usize, widths: &[u16], guards: &[u8], starts: &[u16
 {
     let mut j: usize = i + 1;
     while j < n {
-        let g = guards[128 * i + j];
+        let g = guards[rules::PATHS * i + j];
         if pair_close(g, starts[i], widths[i], starts[j], widths[j]) {
             return j;
         }
@@ -53,7 +53,7 @@ fn row_close(n: usize, i: usize, widths: &[u16], guards: &[u8], starts: &[u16]) 
     let mut any = false;
     let mut j: usize = i + 1;
     while j < n {
-        let g = guards[128 * i + j];
+        let g = guards[rules::PATHS * i + j];
         let x = pair_close(g, s, w, starts[j], widths[j]);
         any = tables::either(any, x);
         j += 1;
@@ -81,7 +81,7 @@ pub fn clash_fault(n: usize, widths: &[u16], guards: &[u8], starts: &[u16]) -> F
     while i < n {
         let j = close_row(n, i, widths, guards, starts);
         if j < n {
-            return tables::refused(rules::REFUSED_CLASH, 128 * i + j);
+            return tables::refused(rules::REFUSED_CLASH, rules::PATHS * i + j);
         }
         i += 1;
     }

@@ -1,3 +1,3 @@
 pub mod Prints
 pub mod Front
-pub mod Keeping
+pub mod Notes

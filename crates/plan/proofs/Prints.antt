@@ -13,19 +13,20 @@ use Rattle.rules.specs.declared.Fault.{Fault}
 use Rattle.rules.specs.declared.Planned.{Planned}
 use Rattle.rules.specs.declared.SheetRead.{SheetRead}
 use Rattle.rules.specs.declared.SheetWritten.{SheetWritten}
-use Rattle.rules.specs.Tables.{at, cell, cleared}
+use Rattle.rules.specs.Tables.{at, cell, cleared, Lent, lend, clearedNetwork}
 use Rattle.rules.specs.Text.{Parsed, none, some, bytes, lineFeed, numeral, pathsWord, guardsWord, startsWord}
 use Rattle.rules.specs.Sheet.{isRow, find, putRow, Line, wrong, right, Section, halt, done, follow, lines, countLine, pathLine, guardLine, pathMeans, pathStep, guardCell, guardMeans, guardStep, startMeans, startStep, counted, after, ended, startsPart, guardsPart, sheetFrom}
 use Rattle.rules.specs.Writing.{sheetText, badLabel, labelTwice, pairs, hasPlan}
-use Rattle.rules.specs.Numbers.{_orElse_, noFault, refuseIf, scan, badStart, sizeFault, networkSizes, networkFault, sheetSizes, writeFault}
+use Rattle.rules.specs.Numbers.{_orElse_, noFault, refuseIf, scan, badStart, sizeFault, networkSizes, networkFault, labelSizes, sheetSizes, writeFault}
 use Rattle.rules.specs.Calls.{Left, left, unless, planning, readOutcome, reading, writing}
 use Rattle.rules.specs.Program.{refusalText, plannedText, printed}
+use Rattle.plan.specs.Note.{noteOf, noted}
 use Rattle.table_laws.specs.Tables.{cleared-length}
 use Rattle.sheet_laws.specs.Writes.{both-pieces, digits-few}
 use Rattle.table_laws.specs.Faults.{or-clear, refuse-clear, size-good}
 
 abbrev Tables : Type 0
-Tables = List ℕ × List ℕ × List ℕ × List ℕ
+Tables = List ℕ × Lent × List ℕ
 
 -- The numbers and lines of the reader's refusals have at most five digits
 abbrev ShortLine : {T : Type 0} → Line T → Type 0
@@ -143,46 +144,84 @@ pub and-right : (a b : Bool) → (a && b) ≡ true → b ≡ true
 and-right true b e = e
 and-right false b e = absurd (true≢false (sym e))
 
-sheet-short : (labels widths guards starts l : List ℕ) → Short (sheetFrom labels widths guards starts l)
+sheet-short : (labels : List ℕ) (lent : Lent) (starts l : List ℕ) → Short (sheetFrom labels lent starts l)
 unfolding sheetFrom
-sheet-short labels widths guards starts l =
+sheet-short labels lent starts l =
     counted-short (countLine pathsWord l) (λ n. leb 1 n && leb n 128) 1
-    (λ n l₁. after (lines pathStep 2 n 0 (labels, widths) l₁) (λ t l₂. after (guardsPart n (t .0) guards starts l₂) (λ u l₃. done (n, t .0, t .1, u .0, u .1) [])))
+    (λ n l₁. after (lines pathStep 2 n 0 (labels, lent .widths) l₁) (λ t l₂. after (guardsPart n (t .0) (lent .guards) starts l₂) (λ u l₃. done (n, t .0, lend (t .1) (u .0), u .1) [])))
     (omega arith)
-    (λ n l₁ e. let q = leb-true n 128 (and-right (leb 1 n) (leb n 128) e) in after-short (lines pathStep 2 n 0 (labels, widths) l₁)
-    (λ t l₂. after (guardsPart n (t .0) guards starts l₂) (λ u l₃. done (n, t .0, t .1, u .0, u .1) []))
-    (lines-short pathStep path-short 2 n 0 (labels, widths) l₁ (omega (arith, q)))
-    (λ t l₂. after-short (guardsPart n (t .0) guards starts l₂) (λ u l₃. done (n, t .0, t .1, u .0, u .1) [])
-    (guards-short n (t .0) guards starts l₂ q) (λ u l₃. tt)))
+    (λ n l₁ e. let q = leb-true n 128 (and-right (leb 1 n) (leb n 128) e) in after-short (lines pathStep 2 n 0 (labels, lent .widths) l₁)
+    (λ t l₂. after (guardsPart n (t .0) (lent .guards) starts l₂) (λ u l₃. done (n, t .0, lend (t .1) (u .0), u .1) []))
+    (lines-short pathStep path-short 2 n 0 (labels, lent .widths) l₁ (omega (arith, q)))
+    (λ t l₂. after-short (guardsPart n (t .0) (lent .guards) starts l₂) (λ u l₃. done (n, t .0, lend (t .1) (u .0), u .1) [])
+    (guards-short n (t .0) (lent .guards) starts l₂ q) (λ u l₃. tt)))
 
-outcome-short : (x : Section (ℕ × List ℕ × List ℕ × List ℕ × List ℕ)) → Short x → (readOutcome x .answer .number < 100000) × (readOutcome x .answer .place < 100000)
+outcome-short : (x : Section (ℕ × List ℕ × Lent × List ℕ)) → Short x → (readOutcome x .answer .number < 100000) × (readOutcome x .answer .place < 100000)
 unfolding readOutcome
 outcome-short (halt number line) s = s
 outcome-short (done t l) s = (omega arith, omega arith)
 
+-- a sheet that is read has at most 128 paths
+abbrev Holds : {T : Type 0} → (T → Type 0) → Section T → Type 0
+Holds P (halt number line) = Unit {0}
+Holds P (done t l) = P t
+
+after-holds : {T U : Type 0} (P : U → Type 0) (x : Section T) (go : T → List ℕ → Section U) → ((t : T) (l : List ℕ) → Holds P (go t l)) → Holds P (after x go)
+unfolding after
+after-holds P (halt number line) go h = tt
+after-holds P (done t l) go h = h t l
+
+counted-holds : {T : Type 0} (P : T → Type 0) (p : Parsed ℕ) (isRight : ℕ → Bool) (line : ℕ) (go : ℕ → List ℕ → Section T)
+    → ((n : ℕ) (l : List ℕ) → isRight n ≡ true → Holds P (go n l)) → Holds P (counted p isRight line go)
+unfolding counted
+counted-holds P none isRight line go h = tt
+counted-holds P (some n l) isRight line go h = pick (isRight n) refl
+  where
+    pick : (x : Bool) → isRight n ≡ x → Holds P (cond x (go n l) (halt 1 line))
+    pick true e = h n l e
+    pick false e = tt
+
+abbrev FewPaths : ℕ × List ℕ × Lent × List ℕ → Type 0
+FewPaths t = t .0 ≤ 128
+
+sheet-few : (labels : List ℕ) (lent : Lent) (starts l : List ℕ) → Holds FewPaths (sheetFrom labels lent starts l)
+unfolding sheetFrom
+sheet-few labels lent starts l =
+    counted-holds FewPaths (countLine pathsWord l) (λ n. leb 1 n && leb n 128) 1
+    (λ n l₁. after (lines pathStep 2 n 0 (labels, lent .widths) l₁) (λ t l₂. after (guardsPart n (t .0) (lent .guards) starts l₂) (λ u l₃. done (n, t .0, lend (t .1) (u .0), u .1) [])))
+    (λ n l₁ e. after-holds FewPaths (lines pathStep 2 n 0 (labels, lent .widths) l₁)
+    (λ t l₂. after (guardsPart n (t .0) (lent .guards) starts l₂) (λ u l₃. done (n, t .0, lend (t .1) (u .0), u .1) []))
+    (λ t l₂. after-holds FewPaths (guardsPart n (t .0) (lent .guards) starts l₂) (λ u l₃. done (n, t .0, lend (t .1) (u .0), u .1) [])
+    (λ u l₃. leb-true n 128 (and-right (leb 1 n) (leb n 128) e))))
+
+outcome-few : (x : Section (ℕ × List ℕ × Lent × List ℕ)) → Holds FewPaths x → readOutcome x .answer .n ≤ 128
+unfolding readOutcome
+outcome-few (halt number line) s = omega arith
+outcome-few (done t l) s = s
+
 -- tables of their sizes are read over alike, whatever stands in them
-sizes-none : (labels widths guards starts : List ℕ) → length labels ≡ 1024 → length widths ≡ 128 → length guards ≡ 16384 → length starts ≡ 128
-    → sheetSizes labels widths guards starts ≡ noFault
-unfolding sheetSizes networkSizes _orElse_
-sizes-none labels widths guards starts a b c d = rw (← size-good labels 1024 a, ← size-good widths 128 b, ← size-good guards 16384 c, ← size-good starts 128 d)
+sizes-none : (labels : List ℕ) (lent : Lent) (starts : List ℕ) → length labels ≡ 1024 → length (lent .widths) ≡ 128 → length (lent .guards) ≡ 16384 → length starts ≡ 128
+    → sheetSizes labels lent starts ≡ noFault
+unfolding sheetSizes labelSizes networkSizes _orElse_
+sizes-none labels lent starts a b c d = rw (← size-good labels 1024 a, ← size-good (lent .widths) 128 b, ← size-good (lent .guards) 16384 c, ← size-good starts 128 d)
 
-pub reading-even : (text labels widths guards starts : List ℕ) → length labels ≡ 1024 → length widths ≡ 128 → length guards ≡ 16384 → length starts ≡ 128
-    → reading text labels widths guards starts ≡ readOutcome (sheetFrom (cleared 1024 0) (cleared 128 0) (cleared 16384 255) (cleared 128 0) text)
+pub reading-even : (text labels : List ℕ) (lent : Lent) (starts : List ℕ) → length labels ≡ 1024 → length (lent .widths) ≡ 128 → length (lent .guards) ≡ 16384 → length starts ≡ 128
+    → reading text labels lent starts ≡ readOutcome (sheetFrom (cleared 1024 0) clearedNetwork (cleared 128 0) text)
 unfolding reading unless
-reading-even text labels widths guards starts a b c d = rw (sizes-none labels widths guards starts a b c d)
+reading-even text labels lent starts a b c d = rw (sizes-none labels lent starts a b c d)
 
-module _ (input labels widths guards starts : List ℕ) (a : length labels ≡ 1024) (b : length widths ≡ 128) (c : length guards ≡ 16384) (d : length starts ≡ 128)
-    (r : SheetRead) (labels′ widths′ guards′ starts′ : List ℕ)
-    (e : _≡_ {A = Left SheetRead Tables} (left r (labels′, widths′, guards′, starts′)) (reading input labels widths guards starts)) where
-  same : _≡_ {A = Left SheetRead Tables} (left r (labels′, widths′, guards′, starts′)) (reading input (cleared 1024 0) (cleared 128 0) (cleared 16384 0) (cleared 128 0))
-  same = e ∙ reading-even input labels widths guards starts a b c d
-      ∙ sym (reading-even input (cleared 1024 0) (cleared 128 0) (cleared 16384 0) (cleared 128 0) (cleared-length 1024 0) (cleared-length 128 0) (cleared-length 16384 0) (cleared-length 128 0))
+module _ (input labels : List ℕ) (lent : Lent) (starts : List ℕ) (a : length labels ≡ 1024) (b : length (lent .widths) ≡ 128) (c : length (lent .guards) ≡ 16384) (d : length starts ≡ 128)
+    (r : SheetRead) (labels′ : List ℕ) (lent′ : Lent) (starts′ : List ℕ)
+    (e : _≡_ {A = Left SheetRead Tables} (left r (labels′, lent′, starts′)) (reading input labels lent starts)) where
+  same : _≡_ {A = Left SheetRead Tables} (left r (labels′, lent′, starts′)) (reading input (cleared 1024 0) (lend (cleared 128 0) (cleared 16384 0)) (cleared 128 0))
+  same = e ∙ reading-even input labels lent starts a b c d
+      ∙ sym (reading-even input (cleared 1024 0) (lend (cleared 128 0) (cleared 16384 0)) (cleared 128 0) (cleared-length 1024 0) (cleared-length 128 0) (cleared-length 16384 0) (cleared-length 128 0))
 
   pub short-refusal : (r .number < 100000) × (r .place < 100000)
   short-refusal =
-      let x = sheetFrom (cleared 1024 0) (cleared 128 0) (cleared 16384 255) (cleared 128 0) input in
-      let q = e ∙ reading-even input labels widths guards starts a b c d in
-      let s = outcome-short x (sheet-short (cleared 1024 0) (cleared 128 0) (cleared 16384 255) (cleared 128 0) input) in
+      let x = sheetFrom (cleared 1024 0) clearedNetwork (cleared 128 0) input in
+      let q = e ∙ reading-even input labels lent starts a b c d in
+      let s = outcome-short x (sheet-short (cleared 1024 0) clearedNetwork (cleared 128 0) input) in
       let p₁ : r .number ≡ readOutcome x .answer .number = ap (λ (w : Left SheetRead Tables). w .answer .number) q in
       let p₂ : r .place ≡ readOutcome x .answer .place = ap (λ (w : Left SheetRead Tables). w .answer .place) q in
       (omega (arith, p₁, s .0), omega (arith, p₂, s .1))
@@ -191,16 +230,25 @@ module _ (input labels widths guards starts : List ℕ) (a : length labels ≡ 1
   unfolding printed
   prints-refusal z = sym (rw (← same, ne-eqb (r .number) 0 z))
 
-  pub prints-plan : r .number ≡ 0 → plannedText (r .n) labels′ widths′ guards′ starts′ ≡ printed input
+  pub prints-plan : r .number ≡ 0 → plannedText (r .n) labels′ lent′ starts′ ≡ printed input
   unfolding printed
   prints-plan z = sym (rw (← same, eq-eqb (r .number) 0 z))
 
--- what was written into the lent text at its front
-pub front : (out after w : List ℕ) (r : ℕ) → (r ≡ 0 + length w) × (after ≡ sets out 0 w) → length w ≤ length out → take r after ≡ w
-front out after w r h l =
-    let e : r ≡ length w = omega (arith, h .0) in
-    let v : after ≡ w ++ drop (length w) out = h .1 ∙ sets-eq w out 0 (omega arith) ∙ ap (λ (k : ℕ). w ++ drop k out) (let g : 0 + length w ≡ length w = omega arith in g) in
-    rw (e, v) (take-append-seam w (drop (length w) out))
+  pub few-paths : r .n ≤ 128
+  few-paths =
+      let x = sheetFrom (cleared 1024 0) clearedNetwork (cleared 128 0) input in
+      let q = e ∙ reading-even input labels lent starts a b c d in
+      let s = outcome-few x (sheet-few (cleared 1024 0) clearedNetwork (cleared 128 0) input) in
+      let p : r .n ≡ readOutcome x .answer .n = ap (λ (w : Left SheetRead Tables). w .answer .n) q in
+      omega (arith, p, s)
+
+  pub notes-nothing : r .number ≢ 0 → [] ≡ noted input
+  unfolding noted
+  notes-nothing z = sym (rw (← same, ne-eqb (r .number) 0 z))
+
+  pub notes-plan : r .number ≡ 0 → noteOf (r .n) lent′ starts′ ≡ noted input
+  unfolding noted
+  notes-plan z = sym (rw (← same, eq-eqb (r .number) 0 z))
 
 -- the sheet that is written does not depend on what stood in the lent text
 abbrev sheetOf : Left SheetWritten (List ℕ) → List ℕ
@@ -209,76 +257,57 @@ sheetOf w = take (w .answer .length) (w .tables)
 abbrev outcome : Bool → Fault → List ℕ → List ℕ → Left SheetWritten (List ℕ)
 outcome b f s text = cond b (left (record { number = 0; place = 0; length = length s }) (s ++ drop (length s) text)) (left (record { number = f .number; place = f .place; length = 0 }) text)
 
-module _ (n : ℕ) (labels widths guards starts : List ℕ) where
-  fault-even : (text other : List ℕ) → length text ≡ length other → writeFault n labels widths guards starts text ≡ writeFault n labels widths guards starts other
+module _ (n : ℕ) (labels : List ℕ) (lent : Lent) (starts : List ℕ) where
+  fault-even : (text other : List ℕ) → length text ≡ length other → writeFault n labels lent starts text ≡ writeFault n labels lent starts other
   unfolding writeFault
   fault-even text other e = rw e
 
-  writing-is : (text : List ℕ) → writing n labels widths guards starts text
-      ≡ outcome (eqb (writeFault n labels widths guards starts text .number) 0) (writeFault n labels widths guards starts text) (sheetText n labels widths guards starts) text
+  writing-is : (text : List ℕ) → writing n labels lent starts text
+      ≡ outcome (eqb (writeFault n labels lent starts text .number) 0) (writeFault n labels lent starts text) (sheetText n labels lent starts) text
   unfolding writing unless
   writing-is text = refl
 
-  written-even : (text other : List ℕ) → length text ≡ length other → sheetOf (writing n labels widths guards starts text) ≡ sheetOf (writing n labels widths guards starts other)
+  written-even : (text other : List ℕ) → length text ≡ length other → sheetOf (writing n labels lent starts text) ≡ sheetOf (writing n labels lent starts other)
   written-even text other e =
       rw (writing-is text, writing-is other, fault-even text other e)
-      (go (sheetText n labels widths guards starts) (writeFault n labels widths guards starts other) (eqb (writeFault n labels widths guards starts other .number) 0))
+      (go (sheetText n labels lent starts) (writeFault n labels lent starts other) (eqb (writeFault n labels lent starts other .number) 0))
     where
       go : (s : List ℕ) (f : Fault) (b : Bool) → sheetOf (outcome b f s text) ≡ sheetOf (outcome b f s other)
       go s f true = take-append-seam s (drop (length s) text) ∙ sym (take-append-seam s (drop (length s) other))
       go s f false = refl
 
-  fits : (text : List ℕ) → writeFault n labels widths guards starts text .number ≡ 0 → length (sheetText n labels widths guards starts) ≤ length text
+  fits : (text : List ℕ) → writeFault n labels lent starts text .number ≡ 0 → length (sheetText n labels lent starts) ≤ length text
   unfolding writeFault
   fits text z =
-      let g = or-clear _ _ (or-clear _ _ (or-clear _ _ (or-clear _ _ (or-clear _ _ (or-clear _ _ z .1) .1) .1) .1) .1) .1 in
-      ltb-false (length text) (length (sheetText n labels widths guards starts))
-      (refuse-clear (ltb (length text) (length (sheetText n labels widths guards starts))) 16 0 (omega arith) g)
+      let g = or-clear _ _ (or-clear _ _ (or-clear _ _ (or-clear _ _ (or-clear _ _ z .1) .1) .1) .1) .1 in
+      ltb-false (length text) (length (sheetText n labels lent starts))
+      (refuse-clear (ltb (length text) (length (sheetText n labels lent starts))) 16 0 (omega arith) g)
 
-  written-short : (text : List ℕ) → writing n labels widths guards starts text .answer .length ≤ length text
+  written-short : (text : List ℕ) → writing n labels lent starts text .answer .length ≤ length text
   written-short text =
-      rw (writing-is text) (go (writeFault n labels widths guards starts text) refl (eqb (writeFault n labels widths guards starts text .number) 0) refl)
+      rw (writing-is text) (go (writeFault n labels lent starts text) refl (eqb (writeFault n labels lent starts text .number) 0) refl)
     where
-      go : (f : Fault) → writeFault n labels widths guards starts text ≡ f → (b : Bool) → eqb (writeFault n labels widths guards starts text .number) 0 ≡ b
-          → outcome b f (sheetText n labels widths guards starts) text .answer .length ≤ length text
-      go f p true q = fits text (eqb-true (writeFault n labels widths guards starts text .number) 0 q)
+      go : (f : Fault) → writeFault n labels lent starts text ≡ f → (b : Bool) → eqb (writeFault n labels lent starts text .number) 0 ≡ b
+          → outcome b f (sheetText n labels lent starts) text .answer .length ≤ length text
+      go f p true q = fits text (eqb-true (writeFault n labels lent starts text .number) 0 q)
       go f p false q = omega arith
 
-pub prints-sheet : (n : ℕ) (labels widths guards starts order order′ starts′ out out′ : List ℕ) (p : Planned) (w : SheetWritten) → order ≡ cleared 128 0 → length out ≡ 45489
-    → _≡_ {A = Left Planned (List ℕ × List ℕ)} (left p (order′, starts′)) (planning n widths guards order starts 1 1000)
-    → _≡_ {A = Left SheetWritten (List ℕ)} (left w out′) (writing n labels widths guards starts′ out)
-    → take (w .length) out′ ≡ plannedText n labels widths guards starts
+pub prints-sheet : (n : ℕ) (labels : List ℕ) (lent : Lent) (starts order order′ starts′ out out′ : List ℕ) (p : Planned) (w : SheetWritten) → order ≡ cleared 128 0 → length out ≡ 45489
+    → _≡_ {A = Left Planned (List ℕ × List ℕ)} (left p (order′, starts′)) (planning n lent order starts 1 1000)
+    → _≡_ {A = Left SheetWritten (List ℕ)} (left w out′) (writing n labels lent starts′ out)
+    → take (w .length) out′ ≡ plannedText n labels lent starts
 unfolding plannedText
-prints-sheet n labels widths guards starts order order′ starts′ out out′ p w z h e f =
-    let g : starts′ ≡ planning n widths guards (cleared 128 0) starts 1 1000 .tables .1
-    = ap (λ (x : Left Planned (List ℕ × List ℕ)). x .tables .1) e ∙ ap (λ (o : List ℕ). planning n widths guards o starts 1 1000 .tables .1) z in
-    ap sheetOf f ∙ written-even n labels widths guards starts′ out (cleared 45489 0) (h ∙ sym (cleared-length 45489 0)) ∙ ap (λ (s : List ℕ). sheetOf (writing n labels widths guards s (cleared 45489 0))) g
+prints-sheet n labels lent starts order order′ starts′ out out′ p w z h e f =
+    let g : starts′ ≡ planning n lent (cleared 128 0) starts 1 1000 .tables .1
+    = ap (λ (x : Left Planned (List ℕ × List ℕ)). x .tables .1) e ∙ ap (λ (o : List ℕ). planning n lent o starts 1 1000 .tables .1) z in
+    ap sheetOf f ∙ written-even n labels lent starts′ out (cleared 45489 0) (h ∙ sym (cleared-length 45489 0)) ∙ ap (λ (s : List ℕ). sheetOf (writing n labels lent s (cleared 45489 0))) g
 
-pub prints-within : (n : ℕ) (labels widths guards starts out out′ : List ℕ) (w : SheetWritten) → length out ≡ 45489
-    → _≡_ {A = Left SheetWritten (List ℕ)} (left w out′) (writing n labels widths guards starts out) → w .length ≤ 45489
-prints-within n labels widths guards starts out out′ w h f =
-    let e : w .length ≡ writing n labels widths guards starts out .answer .length = ap (λ (x : Left SheetWritten (List ℕ)). x .answer .length) f in
-    omega (arith, e, h, written-short n labels widths guards starts out)
+pub prints-within : (n : ℕ) (labels : List ℕ) (lent : Lent) (starts out out′ : List ℕ) (w : SheetWritten) → length out ≡ 45489
+    → _≡_ {A = Left SheetWritten (List ℕ)} (left w out′) (writing n labels lent starts out) → w .length ≤ 45489
+prints-within n labels lent starts out out′ w h f =
+    let e : w .length ≡ writing n labels lent starts out .answer .length = ap (λ (x : Left SheetWritten (List ℕ)). x .answer .length) f in
+    omega (arith, e, h, written-short n labels lent starts out)
 
 pub blank-order : replicate 128 0 ≡ cleared 128 0
 unfolding cleared
 blank-order = refl
-
--- how long a refusal's line is
-pub refusal-length : (number line : ℕ) → length (refusalText number line) ≡ 8 + length (numeral number) + 6 + length (numeral line) + 1
-unfolding refusalText
-refusal-length number line =
-    omega (arith, length-append (numeral number) (bytes " line " ++ (numeral line ++ lineFeed)), length-append (numeral line) lineFeed)
-
-pub refusal-within : (number line : ℕ) → number < 100000 → line < 100000 → length (refusalText number line) ≤ 45489
-refusal-within number line a b = omega (arith, refusal-length number line, digits-few number a, digits-few line b)
-
--- the pieces of a refusal's line, one after the other
-pub refusal-wrote : (number line : ℕ) (l₀ l₁ l₂ l₃ l₄ l₅ : List ℕ) (p q e f r : ℕ) → (p ≡ 0 + 8) × (l₁ ≡ sets l₀ 0 (bytes "refused ")) → (q ≡ p + length (numeral number)) × (l₂ ≡ sets l₁ p (numeral number))
-    → (e ≡ q + 6) × (l₃ ≡ sets l₂ q (bytes " line ")) → (f ≡ e + length (numeral line)) × (l₄ ≡ sets l₃ e (numeral line)) → (r ≡ f + 1) × (l₅ ≡ sets l₄ f lineFeed)
-    → (r ≡ 0 + length (refusalText number line)) × (l₅ ≡ sets l₀ 0 (refusalText number line))
-unfolding refusalText
-refusal-wrote number line l₀ l₁ l₂ l₃ l₄ l₅ p q e f r h₁ h₂ h₃ h₄ h₅ =
-    both-pieces l₀ l₁ l₅ 0 p r (bytes "refused ") (numeral number ++ (bytes " line " ++ (numeral line ++ lineFeed))) h₁
-    (both-pieces l₁ l₂ l₅ p q r (numeral number) (bytes " line " ++ (numeral line ++ lineFeed)) h₂
-    (both-pieces l₂ l₃ l₅ q e r (bytes " line ") (numeral line ++ lineFeed) h₃ (both-pieces l₃ l₄ l₅ e f r (numeral line) lineFeed h₄ h₅)))

@@ -1,85 +1,28 @@
-// One run of the plan program: "It reads a sheet from standard input, plans with seed 1 and 1,000 rounds, and prints the sheet with its
-// starts". From the bytes read to the bytes printed all is proved (`answer`); reading and writing are calls of the system.
+// One run of the plan program: it reads a sheet from standard input, plans with seed 1 and 1,000 rounds, and prints the sheet with its starts,
+// or the line of a refusal. With the argument `--verbose` a line on standard error says what was planned.
+//
+// From the bytes read to the bytes printed all is proved (`answer`). `main` is calls alone: that it lends `answer` what standard input
+// held, and writes what `answer` made, is seen by examples/check.
+mod note;
+
+use libc::STDERR_FILENO;
 use libc::STDIN_FILENO;
 use libc::STDOUT_FILENO;
+use text::Next;
 ghost use mathlib.Core.Path.{_≡_};
-ghost use Prim.Native.Nat.{ℕ, _-_, _≤_, _<_};
-ghost use mathlib.Core.List.{List, _++_};
+ghost use Prim.Native.Nat.{_≤_};
 ghost use lib.ListN.{length, take};
-ghost use Rattle.io.specs.Counts.{Counts};
-ghost use Rattle.rules.specs.Program.{refusalText, plannedText, printed};
-ghost use Rattle.text.specs.Says.{Wrote};
+ghost use Rattle.rules.specs.Tables.{lend};
+ghost use Rattle.rules.specs.Program.{plannedText, printed};
+ghost use Rattle.plan.specs.Note.{noteOf, noted, Made};
 
-// What came of standard input: to its end, and how many bytes of the text are from it.
-struct Input {
-    is_whole: bool,
-    length: usize,
+// How many bytes are for standard output, and how many for the line on standard error: none where the sheet is refused.
+struct Lengths {
+    out: usize,
+    line: usize,
 }
 
-// Puts bytes that came into the text, after those that it has, as far as there is room. Answers how many it has then.
-fn keep(text: &mut [u8], have: usize, came: &[u8]) -> usize
-    requires { ⌜ have ≤ length (now text) ⌝ }
-    ensures { λ r. ⌜ r ≤ length (now (text .exit)) ⌝ }
-    ensures { λ r. ⌜ Wrote (now (text .entry)) have (take (length (now (text .entry)) - have) (now (came .entry))) r (now (text .exit)) ⌝ }
-{
-    let mut k = have;
-    let mut j = 0;
-    while j < came.len() {
-        if text.len() <= k {
-            return k;
-        }
-        text[k] = came[j];
-        k += 1;
-        j += 1;
-    }
-    k
-}
-
-// Reads to the end of standard input, whatever the pieces are that it comes in. What the text has no room for is read and dropped. A read
-// that fails is not the end. A proved loop has to end, so this one counts its turns down, from a number that no run uses up.
-fn read_all(text: &mut [u8]) -> Input
-    ensures { λ r. ⌜ Counts (r .length) (now (text .exit)) ⌝ }
-{
-    let mut have: usize = 0;
-    let mut turns = u64::MAX;
-    while turns > 0 {
-        let mut piece = io::buffer();
-        let got = libc::read(STDIN_FILENO, &mut piece);
-        if got < 0 {
-            return Input {
-                is_whole: false,
-                length: 0,
-            };
-        }
-        if got == 0 {
-            return Input {
-                is_whole: true,
-                length: have,
-            };
-        }
-        let n = io::count(got, &piece);
-        have = keep(text, have, &piece[..n]);
-        turns -= 1;
-    }
-    Input {
-        is_whole: false,
-        length: 0,
-    }
-}
-
-// "Refused, it prints one line, `refused 11 line 3` in that form: the number, then the line."
-fn refuse(out: &mut [u8], number: usize, line: usize) -> usize
-    requires { ⌜ (number < 100000) × (line < 100000) × (length (now out) ≡ 45489) ⌝ }
-    ensures { λ r. ⌜ Wrote (now (out .entry)) 0 (refusalText number line) r (now (out .exit)) ⌝ }
-{
-    let p = text::put_word(out, 0, b"refused ");
-    let q = text::put_number(out, p, number);
-    let e = text::put_word(out, q, b" line ");
-    let f = text::put_number(out, e, line);
-    text::put_word(out, f, b"\n")
-}
-
-// The sheet with the starts that are planned for it.
+// The sheet with the starts that are planned for it, and what was planned.
 fn planned(
     n: usize,
     labels: &[u8],
@@ -87,18 +30,24 @@ fn planned(
     guards: &[u8],
     starts: &mut [u16],
     out: &mut [u8],
-) -> usize
-    requires { ⌜ length (now out) ≡ 45489 ⌝ }
-    ensures { λ r. ⌜ (take r (now (out .exit)) ≡ plannedText n (now (labels .entry)) (now (widths .entry)) (now (guards .entry)) (now (starts .entry))) × (r ≤ 45489) ⌝ }
+    line: &mut [u8],
+) -> Lengths
+    requires { ⌜ (n ≤ 128) × (length (now guards) ≡ 16384) × (length (now out) ≡ 45489) × (length (now line) ≡ 80) ⌝ }
+    ensures { λ r. ⌜ (take (r .out) (now (out .exit)) ≡ plannedText n (now (labels .entry)) (lend (now (widths .entry)) (now (guards .entry))) (now (starts .entry))) × (r .out ≤ 45489) ⌝ }
+    ensures { λ r. ⌜ (take (r .line) (now (line .exit)) ≡ noteOf n (lend (now (widths .entry)) (now (guards .entry))) (now (starts .entry))) × (r .line ≤ 80) ⌝ }
 {
-    let mut order = [0u8; 128];
-    planning::plan(n, widths, guards, &mut order, starts, 1, 1000);
+    let mut order = [0u8; rules::PATHS];
+    let plan = planning::plan(n, widths, guards, &mut order, starts, 1, 1000);
     let written = sheet::write(n, labels, widths, guards, starts, out);
-    written.length
+    let noted = note::note(n, widths, guards, plan.highest, plan.kept, line);
+    Lengths {
+        out: written.length,
+        line: noted,
+    }
 }
 
-// From the input to what is printed: so many bytes of a lent text that has room for the longest sheet. The four tables are for the work.
-// Where the input has 65,536 bytes or more, whatever comes after them changes nothing.
+// From the input to what is printed: so many bytes of a lent text that has room for the longest sheet, and of a lent line. The four tables are
+// for the work. Where the input has 65,536 bytes or more, whatever comes after them changes nothing.
 fn answer(
     input: &[u8],
     labels: &mut [u8],
@@ -106,42 +55,81 @@ fn answer(
     guards: &mut [u8],
     starts: &mut [u16],
     out: &mut [u8],
-) -> usize
-    requires { ⌜ (length (now labels) ≡ 1024) × (length (now widths) ≡ 128) × (length (now guards) ≡ 16384) × (length (now starts) ≡ 128) × (length (now out) ≡ 45489) ⌝ }
-    ensures { λ r. ⌜ take r (now (out .exit)) ≡ printed (now (input .entry)) ⌝ }
-    ensures { λ r. ⌜ Counts r (now (out .exit)) ⌝ }
-    ensures { λ r. ⌜ ((rest : List ℕ) → 65536 ≤ length (now (input .entry)) → take r (now (out .exit)) ≡ printed (now (input .entry) ++ rest)) ⌝ }
+    line: &mut [u8],
+) -> Lengths
+    requires { ⌜ (length (now labels) ≡ 1024) × (length (now widths) ≡ 128) × (length (now guards) ≡ 16384) × (length (now starts) ≡ 128) × (length (now out) ≡ 45489) × (length (now line) ≡ 80) ⌝ }
+    ensures { λ r. ⌜ Made printed (now (input .entry)) (r .out) (now (out .exit)) ⌝ }
+    ensures { λ r. ⌜ Made noted (now (input .entry)) (r .line) (now (line .exit)) ⌝ }
 {
     let got = sheet::read(input, labels, widths, guards, starts);
     if got.number != 0 {
-        return refuse(out, got.number, got.place);
+        return Lengths {
+            out: console::refuse(out, got.number, got.place),
+            line: 0,
+        };
     }
-    planned(got.n, labels, widths, guards, starts, out)
+    planned(got.n, labels, widths, guards, starts, out, line)
 }
 
-// The text holds the first 65,536 bytes of the input, more than the longest sheet has. Its answer is the answer for the whole input, as
-// `answer` promises.
-fn main() {
-    let mut text = io::large_buffer();
-    let input = read_all(&mut text);
-    if !input.is_whole {
-        os::fail(b"plan: standard input");
-        return;
+// Whether `--verbose` is the one argument.
+fn is_verbose(count: usize, word: &[u8]) -> bool {
+    if count != 2 {
+        return false;
     }
-    let mut labels = [0u8; 1024];
-    let mut widths = [0u16; 128];
-    let mut guards = [0u8; 16384];
-    let mut starts = [0u16; 128];
-    let mut out = [0u8; 45489];
-    let m = answer(
-        &text[..input.length],
+    match text::word(word, 0, b"--verbose") {
+        Next::At(end) => end == word.len(),
+        Next::Missing => false,
+    }
+}
+
+// Prints what is made of the input.
+fn respond(input: &[u8], verbose: bool) {
+    let mut labels = [0u8; rules::LABELS];
+    let mut widths = [0u16; rules::PATHS];
+    let mut guards = [0u8; rules::CELLS];
+    let mut starts = [0u16; rules::PATHS];
+    let mut out = [0u8; rules::SHEET_MOST];
+    let mut line = [0u8; 80];
+    let made = answer(
+        input,
         &mut labels,
         &mut widths,
         &mut guards,
         &mut starts,
         &mut out,
+        &mut line,
     );
-    if !io::write_all(STDOUT_FILENO, &out[..m]) {
-        os::fail(b"plan: standard output");
+    let m = made.out;
+    let e = made.line;
+    if console::print(STDOUT_FILENO, &out[..m], b"plan: standard output") && verbose {
+        console::print(STDERR_FILENO, &line[..e], b"plan: standard error");
     }
+}
+
+// The text holds the first 65,536 bytes of the input, more than the longest sheet has. Its answer is the answer for the whole input, as
+// `answer` promises.
+fn run(verbose: bool) {
+    let mut text = io::large_buffer();
+    let input = console::read_all(STDIN_FILENO, &mut text);
+    if !input.is_whole {
+        os::fail(b"plan: standard input");
+        return;
+    }
+    let have = input.length;
+    respond(&text[..have], verbose);
+}
+
+fn main() {
+    let count = os::arg_count();
+    if count < 2 {
+        run(false);
+        return;
+    }
+    let mut word = io::buffer();
+    let k = os::arg(1, &mut word);
+    if is_verbose(count, &word[..k]) {
+        run(true);
+        return;
+    }
+    console::tell(b"plan", b"unknown argument");
 }

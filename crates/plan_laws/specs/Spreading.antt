@@ -40,12 +40,9 @@ pub record Spreading (n : ℕ) (lent : Lent) (mark keys asked : List ℕ) (m : �
   pub sides : (k : ℕ) → k < n → (1 ≤ at asked k) × (at asked k ≤ 2)
   pub marked : (k : ℕ) → k < n → isMarked mark k ≡ placed (spreadPath n lent) m k
 
--- path c has been marked s: the paths in conflict with it touch it, and would get the other mark
-abbrev pub Touched : ℕ → List ℕ → ℕ → List ℕ → List ℕ → Type 0
-Touched n guards c before after = Updated (λ k x. cond (ltb (at guards (cell c k)) 255) 0 x) before after n
-
-abbrev pub Answered : ℕ → List ℕ → ℕ → ℕ → List ℕ → List ℕ → Type 0
-Answered n guards c other before after = Updated (λ k x. cond (ltb (at guards (cell c k)) 255) other x) before after n
+-- the cells of the paths in conflict with path c hold a value: once c has been marked they touch it, and they would get the other mark
+abbrev pub Spread : ℕ → List ℕ → ℕ → ℕ → List ℕ → List ℕ → Type 0
+Spread n guards c value before after = Updated (λ k x. cond (ltb (at guards (cell c k)) 255) value x) before after n
 
 module _ (n : ℕ) (lent : Lent) (few : n ≤ 128) where
   abbrev net : Net
@@ -94,7 +91,7 @@ module _ (n : ℕ) (lent : Lent) (few : n ≤ 128) where
     pub spreading-below : c < n
     spreading-below = rw spreading-next (ord .inside m l)
 
-    pub spreading-more : (s : ℕ) (keys′ asked′ : List ℕ) → s ≡ at asked c → Touched n (lent .guards) c keys keys′ → Answered n (lent .guards) c (3 - s) asked asked′
+    pub spreading-more : (s : ℕ) (keys′ asked′ : List ℕ) → s ≡ at asked c → Spread n (lent .guards) c 0 keys keys′ → Spread n (lent .guards) c (3 - s) asked asked′
         → Spreading n lent (set mark c s) keys′ asked′ (m + 1)
     spreading-more s keys′ asked′ es t u =
         rw add-one record {

@@ -1,7 +1,6 @@
-//! The table calls: their refusals in document 01's order, and what they leave in the tables.
+//! The table calls: their refusals in the order of RULES 18, and what they leave in the tables.
 //!
-//! "Order for table calls: 2, 1, 3, 4, 5, then 6, 7, 8, 10, 15, 9 where they apply; each scan
-//! goes from the lowest index, by i then j." "A refusal leaves every lent table unchanged."
+//! Each test goes from the lowest index, over the square by rows. A refusal changes no table.
 
 use crate::net::*;
 use crate::rules;
@@ -15,18 +14,18 @@ pub struct Answer {
 }
 
 impl Answer {
-    /// "0 | done | 0"
+    /// Number 0, place 0.
     pub fn done(first: usize, second: usize) -> Answer {
         Answer { number: 0, place: 0, more: [first, second] }
     }
 
-    /// "Other numbers in a refused answer are 0."
+    /// A refused answer has no numbers but its own and its place.
     pub fn of(result: Result<Answer, Refusal>) -> Answer {
         result.unwrap_or_else(|r| Answer { number: r.number, place: r.place, more: [0, 0] })
     }
 }
 
-/// A refusal: one row of "Numbers returned".
+/// A refusal: one row of RULES 17.
 #[derive(Clone, Copy, Debug, PartialEq, Eq)]
 pub struct Refusal {
     pub number: usize,
@@ -42,7 +41,7 @@ pub fn refuse_at(number: usize, place: Option<usize>) -> Result<(), Refusal> {
     place.map_or(Ok(()), |p| refuse(number, p))
 }
 
-/// "2 | a lent table is not of its size | 0"
+/// 2: a table has not its size.
 pub fn sizes(lent_and_fixed: &[(usize, usize)]) -> Result<(), Refusal> {
     let wrong = lent_and_fixed.iter().any(|(lent, fixed)| lent != fixed);
     refuse_at(2, wrong.then_some(0))
@@ -59,7 +58,7 @@ pub fn network(n: usize, widths: &[u16], guards: &[u8]) -> Result<Network, Refus
     Ok(Network::from_tables(n, widths, guards))
 }
 
-/// "guard cell not 0 to 32 or 255, diagonal not 255"
+/// 4: neither a guard of 0 to 32 nor 255; on the diagonal all but 255.
 fn bad_cell(i: usize, j: usize, value: u8) -> bool {
     if i == j {
         value != NONE
@@ -80,32 +79,32 @@ fn first_cell(n: usize, so: impl Fn(usize, usize) -> bool) -> Option<usize> {
     None
 }
 
-/// "6 | order entry n or more, or seen earlier | position"
+/// 6: an entry that is no path, or that comes a second time.
 fn order_of(n: usize, order: &[u8]) -> Result<Vec<usize>, Refusal> {
     let bad = |p: usize| usize::from(order[p]) >= n || order[..p].contains(&order[p]);
     refuse_at(6, (0..n).find(|&p| bad(p)))?;
     Ok(order[..n].iter().map(|&path| usize::from(path)).collect())
 }
 
-/// "7 | start not 1 to 16,384 | path"
+/// 7: a start outside 1 to 16,384.
 pub fn starts_of(n: usize, starts: &[u16]) -> Result<Vec<usize>, Refusal> {
     let starts: Vec<usize> = starts[..n].iter().map(|&s| usize::from(s)).collect();
     refuse_at(7, starts.iter().position(|s| !(1..=MAX_START).contains(s)))?;
     Ok(starts)
 }
 
-/// "8 | first conflicting pair, i<j, too close | cell"
+/// 8: the first pair that is too close, by rows above the diagonal.
 fn valid(net: &Network, starts: &[usize]) -> Result<(), Refusal> {
     refuse_at(8, rules::first_clash(net, starts).map(|(i, j)| cell(i, j)))
 }
 
-/// "10 | rounds over 10,000 | 0"
+/// 10: more than 10,000 rounds.
 fn rounds_allowed(rounds: usize) -> Result<(), Refusal> {
     refuse_at(10, (rounds > MAX_ROUNDS).then_some(0))
 }
 
-/// "15 | floor list empty, over 8, or entry out of range, repeated or not in conflict with an
-/// earlier one | position, or 0 for length"
+/// 15: a list of wrong length, place 0; then an entry that is no path, comes again, or has no
+/// conflict with an earlier one.
 fn list_of(net: &Network, list: &[u8]) -> Result<Vec<usize>, Refusal> {
     if list.is_empty() || list.len() > MAX_LIST {
         return refuse(15, 0);
@@ -132,7 +131,7 @@ fn put_order(order: &[usize], table: &mut [u8]) {
     }
 }
 
-/// "judging, the number and place alone"
+/// RULES 4: nothing beside number and place.
 pub fn judge(n: usize, widths: &[u16], guards: &[u8], starts: &[u16]) -> Answer {
     let run = || {
         sizes(&[(widths.len(), PATHS), (guards.len(), CELLS), (starts.len(), PATHS)])?;
@@ -143,7 +142,7 @@ pub fn judge(n: usize, widths: &[u16], guards: &[u8], starts: &[u16]) -> Answer 
     Answer::of(run())
 }
 
-/// "Packing and pressing answer the starts and the highest slot"
+/// RULES 5.
 pub fn pack(n: usize, widths: &[u16], guards: &[u8], order: &[u8], starts: &mut [u16]) -> Answer {
     let mut run = || {
         sizes(&[(widths.len(), PATHS), (guards.len(), CELLS)])?;
@@ -169,7 +168,7 @@ pub fn press(n: usize, widths: &[u16], guards: &[u8], starts: &mut [u16]) -> Ans
     Answer::of(run())
 }
 
-/// "The two-sided call answers this order and the size of the low side."
+/// RULES 7.
 pub fn two_sides(n: usize, widths: &[u16], guards: &[u8], order: &mut [u8]) -> Answer {
     let mut run = || {
         sizes(&[(widths.len(), PATHS), (guards.len(), CELLS), (order.len(), PATHS)])?;
@@ -191,7 +190,7 @@ fn put_improved(found: &rules::Improved, order: &mut [u8], starts: &mut [u16]) -
     Answer::done(found.highest, found.kept)
 }
 
-/// "It answers as improving does, with 0 kept where no rounds run."
+/// RULES 10.
 pub fn plan(
     n: usize, widths: &[u16], guards: &[u8], order: &mut [u8], starts: &mut [u16], seed: u32,
     rounds: usize,
@@ -206,7 +205,7 @@ pub fn plan(
     Answer::of(run())
 }
 
-/// "It answers the order, its starts, its highest slot and the number of swaps kept."
+/// RULES 9.
 pub fn improve(
     n: usize, widths: &[u16], guards: &[u8], order: &mut [u8], starts: &mut [u16], seed: u32,
     rounds: usize,
@@ -222,8 +221,7 @@ pub fn improve(
     Answer::of(run())
 }
 
-/// "the one with the lower highest slot .. on equality, of the first. The part is empty exactly
-/// when a packing of either would be refused": 0 neither, 1 the first, 2 the second.
+/// RULES 11: 0 neither, 1 the first, 2 the second.
 pub fn better(n: usize, widths: &[u16], guards: &[u8], first: &[u8], second: &[u8]) -> usize {
     let mut room = vec![0; PATHS];
     let one = pack(n, widths, guards, first, &mut room);

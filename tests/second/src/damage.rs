@@ -28,7 +28,7 @@ pub struct Draft {
 }
 
 impl Draft {
-    /// The sheet of a case. "Guard lines may come in any order and either way round".
+    /// The sheet of a case: its guard lines in any order, with either label first.
     pub fn new(rng: &mut Rng, c: &Case, starts: bool) -> Draft {
         let labels: Vec<String> = (0..c.n).map(|i| label_text(c, i)).collect();
         let mut lines = vec![(Kind::Paths, format!("paths {}", c.n))];

@@ -1,4 +1,4 @@
-//! Self-checks that need no library: document 01's figures and outside vectors, on this
+//! Self-checks that need no library: the figures of RULES 20 and outside vectors, on this
 //! program's own implementation.
 
 use crate::brute;
@@ -7,7 +7,7 @@ use crate::net::*;
 use crate::rules;
 use crate::sheet;
 
-/// "T: widths 2, 4, 3; guards 0-1 is 1, 1-2 is 2, 0-2 is 0."
+/// Network T of RULES 20.
 fn t() -> Network {
     Network::of(&[2, 4, 3], &[(0, 1, 1), (1, 2, 2), (0, 2, 0)])
 }
@@ -101,7 +101,7 @@ fn p10_floor() {
     assert_eq!(calls::floor(3, &widths, &guards, &[0, 1, 2]), Answer::done(9, 0));
 }
 
-/// "one path of 64, highest 64; two of 64, guard 32, highest 160"
+/// The widest paths, run.
 #[test]
 fn run_widest() {
     let (widths, guards) = tables(&[64], &[]);
@@ -113,7 +113,7 @@ fn run_widest() {
     assert_eq!(got, Answer::done(160, 0));
 }
 
-/// "n 0 and 129 refused 1; widths 0 and 65, guard 33, start 16,385, rounds 10,001"
+/// Each limit passed by one, run.
 #[test]
 fn run_limits() {
     let (widths, guards) = t_tables();
@@ -141,7 +141,7 @@ fn read(text: &str) -> Answer {
     sheet::read(text.as_bytes(), &mut labels, &mut long(&[1]), &mut guards, &mut long(&[1]))
 }
 
-/// "empty text refused 11, line 1; `paths 0` refused 1, line 1; label 0417 beside 417 accepted"
+/// The smallest sheets, run; and labels that are equal as numbers only.
 #[test]
 fn run_sheets() {
     assert_eq!(read(""), refused(11, 1));
@@ -164,7 +164,7 @@ fn run_sheets() {
     assert_eq!(read("paths 1\nA 2\nguards 0\nstarts 1\n"), refused(11, 5));
 }
 
-/// "One run of the plan program"
+/// The example of RULES 19.
 #[test]
 fn run_program() {
     let input = "paths 3\n0417 2\n417 4\nA9 3\nguards 2\n0417 417 1\n417 A9 2\n";
@@ -174,7 +174,7 @@ fn run_program() {
     assert_eq!(sheet::program(output.as_bytes()), output.as_bytes());
 }
 
-/// "The longest sheet has 45,489 bytes."
+/// The longest sheet: RULES 13.
 #[test]
 fn the_longest_sheet() {
     let c = crate::gen::longest(&mut crate::gen::Rng::new(1, 0, 0));

@@ -313,7 +313,7 @@ pub fn any_list(rng: &mut Rng, c: &Case) -> Vec<u8> {
     found
 }
 
-/// Labels, no two equal: "1 to 8 of digits, capitals and hyphen".
+/// Labels of every allowed length and byte, no two equal.
 pub fn labels(rng: &mut Rng, n: usize) -> Vec<u8> {
     let mut table: Vec<u8> = (0..LABELS).map(|_| junk_byte(rng)).collect();
     let mut taken: Vec<Vec<u8>> = Vec::new();

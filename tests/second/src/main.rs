@@ -1,7 +1,7 @@
-//! The independent second program: document 01 written again, in plain Rust, and compared with
+//! The independent second program: the rules written again, in plain Rust, and compared with
 //! the library through its C face.
 //!
-//! `net`, `rules`, `calls` and `sheet` are document 01; `brute` looks for its promises in all
+//! `net`, `rules`, `calls` and `sheet` are the rules; `brute` looks for its promises in all
 //! orders, plans and sides; `gen` and `damage` make cases; `ffi` and `compare` make one
 //! comparison; `groups` are the groups of comparisons.
 

@@ -1,32 +1,32 @@
-//! The tables of document 01, their sizes and limits, and the network that they describe.
+//! The tables of RULES 3, their sizes and limits, and the network that they describe.
 
-/// "n is 1 to 128. Every table has one fixed size, whatever n is."
+/// The most paths, and the cells of widths, starts and orders.
 pub const PATHS: usize = 128;
-/// "Guards: 16,384 bytes; the cell of i and j is 128i + j."
+/// The cells of the guards: 128 for each path.
 pub const CELLS: usize = 16_384;
-/// "Labels: 1,024 bytes, eight a path"
+/// The bytes of the labels: eight for each path.
 pub const LABELS: usize = 1_024;
 /// Bytes of a label's cell.
 pub const LABEL: usize = 8;
-/// "255 is no conflict"
+/// In a cell of the guards: no conflict.
 pub const NONE: u8 = 255;
 
-/// "each 1 to 64 slots"
+/// The largest width.
 pub const MAX_WIDTH: usize = 64;
-/// "A value 0 to 32 is a conflict with that guard"
+/// The largest guard.
 pub const MAX_GUARD: usize = 32;
-/// "Starts: .. each 1 to 16,384"
+/// The largest start.
 pub const MAX_START: usize = 16_384;
-/// "G is 0 to 2,000"
+/// The most guard lines of a sheet.
 pub const MAX_PAIRS: usize = 2_000;
-/// "0 to 10,000 rounds"
+/// The most rounds.
 pub const MAX_ROUNDS: usize = 10_000;
-/// "a list of 1 to 8 distinct paths"
+/// The most entries of a floor's list.
 pub const MAX_LIST: usize = 8;
-/// "The longest sheet has 45,489 bytes."
+/// The bytes of the longest sheet.
 pub const LONGEST_SHEET: usize = 45_489;
 
-/// "the cell of i and j is 128i + j"
+/// Where the guard of i and j stands.
 pub fn cell(i: usize, j: usize) -> usize {
     PATHS * i + j
 }
@@ -68,7 +68,7 @@ impl Network {
         self.widths[i]
     }
 
-    /// The guard of a conflict. "A guard of 0 is still a conflict."
+    /// The guard of a conflict, which may be 0.
     pub fn guard(&self, i: usize, j: usize) -> Option<usize> {
         self.guards[i][j].map(usize::from)
     }

@@ -1,21 +1,20 @@
-//! "Rules of a plan": what packing, pressing, sides, planning, improving and floors are.
+//! RULES 4 to 12: what packing, pressing, sides, planning, improving and floors are.
 //!
 //! Everything here is about a network that has passed its tests; refusals are in `calls`.
 
 use crate::net::Network;
 
-/// "The end of a path is start + width - 1."
+/// The last slot of a path.
 pub fn end(net: &Network, path: usize, start: usize) -> usize {
     start + net.width(path) - 1
 }
 
-/// "The highest slot is the largest end."
+/// The highest slot in use.
 pub fn highest(net: &Network, starts: &[usize]) -> usize {
     (0..net.paths()).map(|p| end(net, p, starts[p])).max().unwrap_or(0)
 }
 
-/// "for each conflicting pair one starts above the other's end plus their guard": the first
-/// pair, by i then j, of which this is not so.
+/// RULES 4: the first pair, by i then j, of which neither path is clear above the other.
 pub fn first_clash(net: &Network, starts: &[usize]) -> Option<(usize, usize)> {
     let apart = |i: usize, j: usize, guard: usize| {
         starts[i] > end(net, j, starts[j]) + guard || starts[j] > end(net, i, starts[i]) + guard
@@ -24,7 +23,7 @@ pub fn first_clash(net: &Network, starts: &[usize]) -> Option<(usize, usize)> {
     clash.map(|(i, j, _)| (i, j))
 }
 
-/// "the largest of 1 and end + guard + 1 over the conflicting paths earlier in it"
+/// RULES 5: the lowest start past all earlier paths that are in conflict with this one.
 fn start_after(net: &Network, path: usize, earlier: &[usize], starts: &[usize]) -> usize {
     let mut start = 1;
     for &other in earlier {
@@ -35,7 +34,7 @@ fn start_after(net: &Network, path: usize, earlier: &[usize], starts: &[usize]) 
     start
 }
 
-/// "Packing an order: in that order, each start is .."
+/// RULES 5: the paths of an order placed one after the other.
 pub fn pack(net: &Network, order: &[usize]) -> Vec<usize> {
     let mut starts = vec![0; net.paths()];
     for (position, &path) in order.iter().enumerate() {
@@ -44,15 +43,14 @@ pub fn pack(net: &Network, order: &[usize]) -> Vec<usize> {
     starts
 }
 
-/// "Pressing: order a valid plan by start, equal starts by number, and pack."
+/// RULES 6: the paths by start, of equal starts the lower number first, packed.
 pub fn press(net: &Network, starts: &[usize]) -> Vec<usize> {
     let mut order: Vec<usize> = (0..net.paths()).collect();
     order.sort_by_key(|&path| (starts[path], path));
     pack(net, &order)
 }
 
-/// "in each connected part the path of lowest number is on the low side and every conflict
-/// joins low to high": who is high, or nothing if there are no such sides.
+/// RULES 7: who is high, or nothing if there are no two sides.
 pub fn sides(net: &Network) -> Option<Vec<bool>> {
     let mut high = vec![None; net.paths()];
     for path in 0..net.paths() {
@@ -72,8 +70,7 @@ fn colour(net: &Network, path: usize, side: bool, high: &mut [Option<bool>]) -> 
     (0..net.paths()).all(|next| net.guard(path, next).is_none() || colour(net, next, !side, high))
 }
 
-/// "The two-sided order is the low side by number, then the high side by number", and the
-/// size of the low side.
+/// RULES 7: first the low paths and then the high ones, each by number; and how many are low.
 pub fn two_sided_order(net: &Network) -> Option<(Vec<usize>, usize)> {
     let high = sides(net)?;
     let low: Vec<usize> = (0..net.paths()).filter(|&p| !high[p]).collect();
@@ -82,8 +79,7 @@ pub fn two_sided_order(net: &Network) -> Option<(Vec<usize>, usize)> {
     Some((low.into_iter().chain(above).collect(), size))
 }
 
-/// "again and again append the path whose packed start would be lowest, ties to the lowest
-/// number"
+/// RULES 8.
 pub fn greedy_order(net: &Network) -> Vec<usize> {
     let mut order = Vec::new();
     let mut starts = vec![0; net.paths()];
@@ -97,13 +93,13 @@ pub fn greedy_order(net: &Network) -> Vec<usize> {
     order
 }
 
-/// "A draw replaces the state x by 1664525x + 1013904223, wrapped at 32 bits"
+/// RULES 9, a draw: the next state.
 pub fn next_state(x: u32) -> u32 {
     let wide = 1_664_525 * u64::from(x) + 1_013_904_223;
     (wide % (1 << 32)) as u32
 }
 
-/// "then takes (x / 65536) times n / 65536, whole parts"
+/// RULES 9, a draw: the place that the state gives.
 pub fn place_of(x: u32, n: usize) -> usize {
     (x / 65_536) as usize * n / 65_536
 }
@@ -116,8 +112,7 @@ pub struct Improved {
     pub kept: usize,
 }
 
-/// "each round draws two places, swaps them, packs, and keeps the swap only if the highest
-/// slot is strictly lower"
+/// RULES 9: round after round, a swap stays only where it lowers the highest slot.
 pub fn improve(net: &Network, order: &[usize], seed: u32, rounds: usize) -> Improved {
     let mut order = order.to_vec();
     let mut starts = pack(net, &order);
@@ -140,8 +135,7 @@ pub fn improve(net: &Network, order: &[usize], seed: u32, rounds: usize) -> Impr
     Improved { highest: highest(net, &starts), order, starts, kept }
 }
 
-/// "the two-sided order if there are sides, with no rounds run; otherwise the greedy order,
-/// improved"
+/// RULES 10.
 pub fn plan(net: &Network, seed: u32, rounds: usize) -> Improved {
     match two_sided_order(net) {
         Some((order, _)) => improve(net, &order, seed, 0),
@@ -149,8 +143,7 @@ pub fn plan(net: &Network, seed: u32, rounds: usize) -> Improved {
     }
 }
 
-/// "its widths added plus (k-1) times the least guard among them, k being its length; one
-/// path gives its width"
+/// RULES 12.
 pub fn floor(net: &Network, list: &[usize]) -> usize {
     let widths: usize = list.iter().map(|&p| net.width(p)).sum();
     let mut least = None;

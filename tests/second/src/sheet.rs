@@ -1,4 +1,4 @@
-//! "The sheet": reading, writing, and one run of the plan program.
+//! RULES 13 to 15 and 19: reading, writing, and the plan program.
 
 use crate::calls::{self, refuse, refuse_at, sizes, Answer, Refusal};
 use crate::net::*;
@@ -11,7 +11,7 @@ struct Sheet {
     starts: Option<Vec<usize>>,
 }
 
-/// The lines still to come. "Lines count from 1".
+/// The lines still to come, counted from 1.
 struct Lines<'a> {
     rest: &'a [u8],
     number: usize,
@@ -19,7 +19,7 @@ struct Lines<'a> {
 
 impl<'a> Lines<'a> {
     /// The fields of the next line, which must be there, with its line feed, and have so many.
-    /// "a missing line is 11 at its number"
+    /// If it is missing, it is refused at the number that it should have.
     fn fields(&mut self, count: usize) -> Result<Vec<&'a [u8]>, Refusal> {
         self.number += 1;
         let Some(length) = self.rest.iter().position(|&b| b == b'\n') else {
@@ -43,7 +43,7 @@ impl<'a> Lines<'a> {
         self.number_in(fields[1])
     }
 
-    /// "A number has 1 to 5 digits and no leading zero, save 0 itself."
+    /// 1 to 5 digits, and no zero in front of others.
     fn number_in(&self, field: &[u8]) -> Result<usize, Refusal> {
         let digits = (1..=5).contains(&field.len()) && field.iter().all(u8::is_ascii_digit);
         if !digits || (field[0] == b'0' && field.len() > 1) {
@@ -66,13 +66,13 @@ impl<'a> Lines<'a> {
     }
 }
 
-/// "A label is 1 to 8 of digits, capitals and hyphen"
+/// 1 to 8 digits, capitals or hyphens.
 fn is_label(bytes: &[u8]) -> bool {
     let allowed = |b: &u8| matches!(b, b'0'..=b'9' | b'A'..=b'Z' | b'-');
     (1..=LABEL).contains(&bytes.len()) && bytes.iter().all(allowed)
 }
 
-/// "Sections stand in a fixed order, each after its count"
+/// The sections, one after the other, each headed by its count.
 fn parse(text: &[u8]) -> Result<Sheet, Refusal> {
     let mut lines = Lines { rest: text, number: 0 };
     let (labels, widths) = parse_paths(&mut lines)?;
@@ -83,12 +83,12 @@ fn parse(text: &[u8]) -> Result<Sheet, Refusal> {
     };
     match lines.rest {
         [] => Ok(Sheet { labels, widths, guards, starts }),
-        // "and so is a line left over"
+        // a line too many
         _ => refuse(11, lines.number + 1),
     }
 }
 
-/// "`paths N`, then N lines `label width`": 11, 1; then 11, 12, 3.
+/// The paths: 11, 1 in their count line; then 11, 12, 3.
 fn parse_paths(lines: &mut Lines) -> Result<(Vec<Vec<u8>>, Vec<usize>), Refusal> {
     let (mut labels, mut widths) = (Vec::new(), Vec::new());
     let n = lines.count(b"paths")?;
@@ -111,7 +111,7 @@ fn parse_paths(lines: &mut Lines) -> Result<(Vec<Vec<u8>>, Vec<usize>), Refusal>
     Ok((labels, widths))
 }
 
-/// "`guards G`, then G lines `label label guard`": 11, 1; then 11, 13, 14, 4.
+/// The guards: 11, 1 in their count line; then 11, 13, 14, 4.
 fn parse_guards(
     lines: &mut Lines, labels: &[Vec<u8>],
 ) -> Result<Vec<(usize, usize, usize)>, Refusal> {
@@ -144,7 +144,7 @@ fn parse_guards(
     Ok(guards)
 }
 
-/// "`starts N` with N lines `label start` in the order of the paths": 11, 1; then 11, 13, 7.
+/// The starts: 11, 1 in their count line; then 11, 13, 7.
 fn parse_starts(lines: &mut Lines, labels: &[Vec<u8>]) -> Result<Vec<usize>, Refusal> {
     let mut starts = Vec::new();
     if lines.count(b"starts")? != labels.len() {
@@ -165,8 +165,8 @@ fn parse_starts(lines: &mut Lines, labels: &[Vec<u8>]) -> Result<Vec<usize>, Ref
     Ok(starts)
 }
 
-/// The reader. "2 first, then the first line at fault"; "the reader's refusals other than 2
-/// leave its tables cleared"; on success it "clears what lies past n".
+/// The reader (RULES 14): 2, and else the first line at fault. Cells past n are cleared, and all
+/// cells where it refuses with anything but 2.
 pub fn read(
     text: &[u8], labels: &mut [u8], widths: &mut [u16], guards: &mut [u8], starts: &mut [u16],
 ) -> Answer {
@@ -199,7 +199,7 @@ pub fn read(
     Answer::of(run())
 }
 
-/// The label in a path's eight bytes, "filled at the end with zero bytes", if it has the form.
+/// The label in a path's eight bytes, with zeros after it, if it has the form.
 fn label_in_table(labels: &[u8], path: usize) -> Option<Vec<u8>> {
     let bytes = &labels[LABEL * path..LABEL * (path + 1)];
     let length = bytes.iter().position(|&b| b == 0).unwrap_or(LABEL);
@@ -207,8 +207,7 @@ fn label_in_table(labels: &[u8], path: usize) -> Option<Vec<u8>> {
     (filled && is_label(&bytes[..length])).then(|| bytes[..length].to_vec())
 }
 
-/// "11 | .. in the writer, of a label | path" over all paths, then "12 | label twice | later ..
-/// path".
+/// 11 for the form of a label, over all paths; then 12 for one that an earlier path has.
 fn labels_of(n: usize, labels: &[u8]) -> Result<Vec<Vec<u8>>, Refusal> {
     let found: Vec<Option<Vec<u8>>> = (0..n).map(|i| label_in_table(labels, i)).collect();
     refuse_at(11, found.iter().position(Option::is_none))?;
@@ -216,7 +215,7 @@ fn labels_of(n: usize, labels: &[u8]) -> Result<Vec<Vec<u8>>, Refusal> {
     Ok(found.into_iter().flatten().collect())
 }
 
-/// "The writer: 2, 1 for n, 3, 4, 5, 11, 12, 1 for pairs, 7, 16."
+/// The writer's tests, in the order of RULES 18.
 fn sheet_of(
     n: usize, labels: &[u8], widths: &[u16], guards: &[u8], starts: &[u16],
 ) -> Result<Sheet, Refusal> {
@@ -226,14 +225,13 @@ fn sheet_of(
     let labels = labels_of(n, labels)?;
     let guards = net.conflicts();
     refuse_at(1, (guards.len() > MAX_PAIRS).then_some(0))?;
-    // "adds the starts section if any of the n starts is not zero; a zero among them is then
-    // refused 7"
+    // the starts are written where there is a plan, and then 0 is no start
     let planned = starts[..n].iter().any(|&s| s != 0);
     let starts = if planned { Some(calls::starts_of(n, starts)?) } else { None };
     Ok(Sheet { labels, widths: (0..n).map(|i| net.width(i)).collect(), guards, starts })
 }
 
-/// "the writer puts the earlier path first and sorts by first, then second path"
+/// RULES 15: guard lines by first path, then by second, the lower path first.
 fn text_of(sheet: &Sheet) -> Vec<u8> {
     let label = |i: usize| String::from_utf8_lossy(&sheet.labels[i]).into_owned();
     let mut text = format!("paths {}\n", sheet.labels.len());
@@ -253,8 +251,7 @@ fn text_of(sheet: &Sheet) -> Vec<u8> {
     text.into_bytes()
 }
 
-/// The writer. "It answers the sheet's length and leaves the lent text past that length
-/// unchanged."
+/// The writer (RULES 15): the length, and nothing changed past it.
 pub fn write(
     n: usize, labels: &[u8], widths: &[u16], guards: &[u8], starts: &[u16], text: &mut [u8],
 ) -> Answer {
@@ -267,8 +264,7 @@ pub fn write(
     Answer::of(run())
 }
 
-/// "It reads a sheet from standard input, plans with seed 1 and 1,000 rounds, and prints the
-/// sheet with its starts"; "Refused, it prints one line, `refused 11 line 3` in that form".
+/// RULES 19: the sheet with its plan, or the one line of a refusal.
 pub fn program(text: &[u8]) -> Vec<u8> {
     let (mut labels, mut widths) = (vec![0; LABELS], vec![0; PATHS]);
     let (mut guards, mut starts) = (vec![0; CELLS], vec![0; PATHS]);

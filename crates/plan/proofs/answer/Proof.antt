@@ -1,11 +1,12 @@
 use mathlib.Core.Path.{_∙_}
 use native.Mathlib.Omega.{arith}
-use borrow.Author.Needs.{needs}
 use denote.Ref.{now}
-use Rattle.io.proofs.Counting.{counts}
+use Rattle.rules.specs.Tables.{lend}
 use Rattle.rules.specs.Program.{refusalText}
-use Rattle.plan.proofs.Prints.{short-refusal, prints-refusal, prints-plan, front, refusal-within}
-use Rattle.plan.proofs.Front.{printed-front}
+use Rattle.console.proofs.Keeping.{front}
+use Rattle.plan.proofs.Prints.{short-refusal, few-paths, prints-refusal, prints-plan, notes-nothing, notes-plan}
+use Rattle.plan.proofs.Front.{made-printed, made-noted}
+use borrow.Author.Needs.{needs}
 use Rattle.plan.proofs.answer.Statement.{statement}
 use Rattle.plan.proofs.answer.Tie as tie
 
@@ -13,7 +14,13 @@ read-requires : tie.Need-read-requires
 read-requires c κs = search needs
 
 refuse-requires : tie.Need-refuse-requires
-refuse-requires c κs = let s = short-refusal (now (c .before .before .before .before .before .before .before .before .before .before .before .before .before .before .before .before .before .before .before .before .before .before .args .input)) (now (c .before .before .before .before .before .before .before .before .before .before .before .before .before .before .before .before .before .before .before .before .before .before .args .labels)) (now (c .before .before .before .before .before .before .before .before .before .before .before .before .before .before .before .before .before .before .before .before .before .before .args .widths)) (now (c .before .before .before .before .before .before .before .before .before .before .before .before .before .before .before .before .before .before .before .before .before .before .args .guards)) (now (c .before .before .before .before .before .before .before .before .before .before .before .before .before .before .before .before .before .before .before .before .before .before .args .starts)) (c .before .before .before .before .before .before .before .before .before .before .before .before .before .before .before .before .before .before .before .before .before .before .pre .0) (c .before .before .before .before .before .before .before .before .before .before .before .before .before .before .before .before .before .before .before .before .before .before .pre .1) (c .before .before .before .before .before .before .before .before .before .before .before .before .before .before .before .before .before .before .before .before .before .before .pre .2) (c .before .before .before .before .before .before .before .before .before .before .before .before .before .before .before .before .before .before .before .before .before .before .pre .3) (c .before .before .before .before .before .before .before .before .before .before .before .read .result) (c .before .before .before .before .before .before .before .before .before .before .before .read .last .1 .0) (c .before .before .before .before .before .before .before .before .before .before .before .read .last .1 .1 .0) (c .before .before .before .before .before .before .before .before .before .before .before .read .last .1 .1 .1 .0) (c .before .before .before .before .before .before .before .before .before .before .before .read .last .1 .1 .1 .1 .0) (c .before .before .before .before .before .before .before .before .before .before .before .read .ensures) in (s .0, s .1, c .before .before .before .before .before .before .before .before .before .before .before .before .before .before .before .before .before .before .before .before .before .before .pre .4)
+refuse-requires c κs =
+    let s = c .before .before .before .before .before .before .before .before .before .before .before .before .before .before .before .before .before .before .before .before .before .before .before in
+    let a = s .args in
+    let q = s .pre in
+    let d = c .before .before .before .before .before .before .before .before .before .before .before .read in
+    let k = short-refusal (now (a .input)) (now (a .labels)) (lend (now (a .widths)) (now (a .guards))) (now (a .starts)) (q .0) (q .1) (q .2) (q .3) (d .result) (d .last .1 .0) (lend (d .last .1 .1 .0) (d .last .1 .1 .1 .0)) (d .last .1 .1 .1 .1 .0) (d .ensures) in
+    (k .0, k .1, omega (arith, q .4))
 
 same-length : tie.Need-same-length
 same-length c = search needs
@@ -32,18 +39,25 @@ same-length-5 c = search needs
 
 returns : tie.Need-returns
 returns c =
-    let a = c .before .before .before .before .before .before .before .before .before .before .before .before .before .before .before .before .before .before .before .before .before .before .before .before .before .args in
-    let q = c .before .before .before .before .before .before .before .before .before .before .before .before .before .before .before .before .before .before .before .before .before .before .before .before .before .pre in
+    let s = c .before .before .before .before .before .before .before .before .before .before .before .before .before .before .before .before .before .before .before .before .before .before .before .before .before .before in
+    let a = s .args in
+    let q = s .pre in
     let d = c .before .before .before .before .before .before .before .before .before .before .before .before .before .before .read in
     let f = c .before .before .refuse in
-    let s = short-refusal (now (a .input)) (now (a .labels)) (now (a .widths)) (now (a .guards)) (now (a .starts)) (q .0) (q .1) (q .2) (q .3) (d .result) (d .last .1 .0) (d .last .1 .1 .0) (d .last .1 .1 .1 .0) (d .last .1 .1 .1 .1 .0) (d .ensures) in
-    let k = refusal-within (d .result .number) (d .result .place) (s .0) (s .1) in
-    let e = front (now (a .out)) (f .last .0) (refusalText (d .result .number) (d .result .place)) (f .result) (f .ensures) (omega (arith, k, q .4))
-    ∙ prints-refusal (now (a .input)) (now (a .labels)) (now (a .widths)) (now (a .guards)) (now (a .starts)) (q .0) (q .1) (q .2) (q .3) (d .result) (d .last .1 .0) (d .last .1 .1 .0) (d .last .1 .1 .1 .0) (d .last .1 .1 .1 .1 .0) (d .ensures) (c .before .before .before .before .if1 .taken) in
-    (e, (counts (f .result) (f .last .0) (omega (arith, k, f .ensures .0, f .kept, q .4)), λ rest h. e ∙ printed-front (now (a .input)) rest h))
+    let t = c .before .before .before .before .if1 .taken in (
+      made-printed (now (a .input)) (f .last .0) (f .result) (omega (arith, f .ensures .1, f .kept, q .4))
+          (front (now (a .out)) (f .last .0) (refusalText (d .result .number) (d .result .place)) (f .result) (f .ensures .0) (omega (arith, f .ensures .0 .0, f .ensures .1, q .4))
+          ∙ prints-refusal (now (a .input)) (now (a .labels)) (lend (now (a .widths)) (now (a .guards))) (now (a .starts)) (q .0) (q .1) (q .2) (q .3) (d .result) (d .last .1 .0) (lend (d .last .1 .1 .0) (d .last .1 .1 .1 .0)) (d .last .1 .1 .1 .1 .0) (d .ensures) t),
+      made-noted (now (a .input)) (now (a .line)) 0 (omega arith) (notes-nothing (now (a .input)) (now (a .labels)) (lend (now (a .widths)) (now (a .guards))) (now (a .starts)) (q .0) (q .1) (q .2) (q .3) (d .result) (d .last .1 .0) (lend (d .last .1 .1 .0) (d .last .1 .1 .1 .0)) (d .last .1 .1 .1 .1 .0) (d .ensures) t),
+    )
 
 planned-requires : tie.Need-planned-requires
-planned-requires c κs = search needs
+planned-requires c κs =
+    let s = c .before .before .before .before .before .before .before .before .before .before .before .before .before .before .before .before .before .before .before .before .before .before .before .before .before .before .before .before in
+    let a = s .args in
+    let q = s .pre in
+    let d = c .before .before .before .before .before .before .before .before .before .before .before .before .before .before .before .before .read in
+    (few-paths (now (a .input)) (now (a .labels)) (lend (now (a .widths)) (now (a .guards))) (now (a .starts)) (q .0) (q .1) (q .2) (q .3) (d .result) (d .last .1 .0) (lend (d .last .1 .1 .0) (d .last .1 .1 .1 .0)) (d .last .1 .1 .1 .1 .0) (d .ensures), search needs, search needs, search needs)
 
 same-length-6 : tie.Need-same-length-6
 same-length-6 c = search needs
@@ -60,14 +74,20 @@ same-length-9 c = search needs
 same-length-10 : tie.Need-same-length-10
 same-length-10 c = search needs
 
+same-length-11 : tie.Need-same-length-11
+same-length-11 c = search needs
+
 returns-2 : tie.Need-returns-2
 returns-2 c =
-    let a = c .before .before .before .before .before .before .before .before .before .before .before .before .before .before .before .before .before .before .before .before .before .before .before .before .before .before .before .before .before .before .before .args in
-    let q = c .before .before .before .before .before .before .before .before .before .before .before .before .before .before .before .before .before .before .before .before .before .before .before .before .before .before .before .before .before .before .before .pre in
-    let d = c .before .before .before .before .before .before .before .before .before .before .before .before .before .before .before .before .before .before .before .before .read in
-    let f = c .before .before .before .before .planned in
-    let e = f .ensures .0 ∙ prints-plan (now (a .input)) (now (a .labels)) (now (a .widths)) (now (a .guards)) (now (a .starts)) (q .0) (q .1) (q .2) (q .3) (d .result) (d .last .1 .0) (d .last .1 .1 .0) (d .last .1 .1 .1 .0) (d .last .1 .1 .1 .1 .0) (d .ensures) (c .before .before .before .before .before .before .before .before .before .before .if1 .left) in
-    (e, (counts (f .result) (f .last .1 .1 .1 .1 .1 .0) (omega (arith, f .ensures .1, f .kept, q .4)), λ rest h. e ∙ printed-front (now (a .input)) rest h))
+    let s = c .before .before .before .before .before .before .before .before .before .before .before .before .before .before .before .before .before .before .before .before .before .before .before .before .before .before .before .before .before .before .before .before .before .before .before in
+    let a = s .args in
+    let q = s .pre in
+    let d = c .before .before .before .before .before .before .before .before .before .before .before .before .before .before .before .before .before .before .before .before .before .before .before .read in
+    let f = c .before .before .before .before .before .before .planned in
+    let t = c .before .before .before .before .before .before .before .before .before .before .before .before .before .if1 .left in (
+      made-printed (now (a .input)) (f .last .1 .1 .1 .1 .1 .0) (f .result .out) (omega (arith, f .ensures .0 .1, f .kept, q .4)) (f .ensures .0 .0 ∙ prints-plan (now (a .input)) (now (a .labels)) (lend (now (a .widths)) (now (a .guards))) (now (a .starts)) (q .0) (q .1) (q .2) (q .3) (d .result) (d .last .1 .0) (lend (d .last .1 .1 .0) (d .last .1 .1 .1 .0)) (d .last .1 .1 .1 .1 .0) (d .ensures) t),
+      made-noted (now (a .input)) (f .last .1 .1 .1 .1 .1 .1 .0) (f .result .line) (omega (arith, f .ensures .1 .1, f .kept, q .5)) (f .ensures .1 .0 ∙ notes-plan (now (a .input)) (now (a .labels)) (lend (now (a .widths)) (now (a .guards))) (now (a .starts)) (q .0) (q .1) (q .2) (q .3) (d .result) (d .last .1 .0) (lend (d .last .1 .1 .0) (d .last .1 .1 .1 .0)) (d .last .1 .1 .1 .1 .0) (d .ensures) t),
+    )
 
 pub answer-spec : {M : Type 1} → statement M
 answer-spec =
@@ -87,4 +107,5 @@ answer-spec =
     same-length-8
     same-length-9
     same-length-10
+    same-length-11
     returns-2)

@@ -1,6 +1,11 @@
-use borrow.Author.Needs.{needs}
+use mathlib.Core.Path.{_∙_}
+use native.Mathlib.Omega.{arith}
 use denote.Ref.{now}
+use Rattle.rules.specs.Tables.{lend}
+use Rattle.console.proofs.Keeping.{front}
 use Rattle.plan.proofs.Prints.{prints-sheet, prints-within, blank-order}
+use Rattle.plan.proofs.Notes.{note-of}
+use borrow.Author.Needs.{needs}
 use Rattle.plan.proofs.planned.Statement.{statement}
 use Rattle.plan.proofs.planned.Tie as tie
 
@@ -13,16 +18,42 @@ plan-requires c κs = search needs
 write-requires : tie.Need-write-requires
 write-requires c κs = search needs
 
+note-requires : tie.Need-note-requires
+note-requires c κs = search needs
+
 same-length : tie.Need-same-length
 same-length c = search needs
 
 same-length-2 : tie.Need-same-length-2
 same-length-2 c = search needs
 
+same-length-3 : tie.Need-same-length-3
+same-length-3 c = search needs
+
 returns : tie.Need-returns
-returns c = (prints-sheet (c .before .before .before .before .before .before .before .before .before .before .before .before .before .before .before .before .args .n) (now (c .before .before .before .before .before .before .before .before .before .before .before .before .before .before .before .before .args .labels)) (now (c .before .before .before .before .before .before .before .before .before .before .before .before .before .before .before .before .args .widths)) (now (c .before .before .before .before .before .before .before .before .before .before .before .before .before .before .before .before .args .guards)) (now (c .before .before .before .before .before .before .before .before .before .before .before .before .before .before .before .before .args .starts)) _ (c .before .before .before .before .before .before .before .before .plan .last .1 .1 .1 .0) (c .before .before .before .before .before .before .before .before .plan .last .1 .1 .1 .1 .0) (now (c .before .before .before .before .before .before .before .before .before .before .before .before .before .before .before .before .args .out)) (c .before .before .write .last .1 .1 .1 .1 .1 .0) (c .before .before .before .before .before .before .before .before .plan .result) (c .before .before .write .result) blank-order (c .before .before .before .before .before .before .before .before .before .before .before .before .before .before .before .before .pre) (c .before .before .before .before .before .before .before .before .plan .ensures) (c .before .before .write .ensures), prints-within (c .before .before .before .before .before .before .before .before .before .before .before .before .before .before .before .before .args .n) (now (c .before .before .before .before .before .before .before .before .before .before .before .before .before .before .before .before .args .labels)) (now (c .before .before .before .before .before .before .before .before .before .before .before .before .before .before .before .before .args .widths)) (now (c .before .before .before .before .before .before .before .before .before .before .before .before .before .before .before .before .args .guards)) (c .before .before .before .before .before .before .before .before .plan .last .1 .1 .1 .1 .0) (now (c .before .before .before .before .before .before .before .before .before .before .before .before .before .before .before .before .args .out)) (c .before .before .write .last .1 .1 .1 .1 .1 .0) (c .before .before .write .result) (c .before .before .before .before .before .before .before .before .before .before .before .before .before .before .before .before .pre) (c .before .before .write .ensures))
+returns c =
+    let s = c .before .before .before .before .before .before .before .before .before .before .before .before .before .before .before .before .before .before .before .before .before in
+    let a = s .args in
+    let p = c .before .before .before .before .before .before .before .before .before .before .before .before .plan in
+    let w = c .before .before .before .before .before .before .write in
+    let l = c .before .before .note in
+    let z = note-of (a .n) (lend (now (a .widths)) (now (a .guards))) (now (a .starts)) _ (p .last .1 .1 .1 .0) (p .last .1 .1 .1 .1 .0) (p .result) blank-order (p .ensures) in (
+      (
+        prints-sheet (a .n) (now (a .labels)) (lend (now (a .widths)) (now (a .guards))) (now (a .starts)) _ (p .last .1 .1 .1 .0) (p .last .1 .1 .1 .1 .0) (now (a .out)) (w .last .1 .1 .1 .1 .1 .0) (p .result) (w .result) blank-order (s .pre .2) (p .ensures) (w .ensures),
+        prints-within (a .n) (now (a .labels)) (lend (now (a .widths)) (now (a .guards))) (p .last .1 .1 .1 .1 .0) (now (a .out)) (w .last .1 .1 .1 .1 .1 .0) (w .result) (s .pre .2) (w .ensures),
+      ),
+      (front (now (a .line)) (l .last .1 .1 .1 .1 .1 .0) _ (l .result) (l .ensures .0) (omega (arith, l .ensures .0 .0, l .ensures .1, s .pre .3)) ∙ z, l .ensures .1),
+    )
 
 pub planned-spec : {M : Type 1} → statement M
 planned-spec =
     tie.close
-    (tie.spec slice-aggregate-plan plan-requires write-requires same-length same-length-2 returns)
+    (tie.spec
+    slice-aggregate-plan
+    plan-requires
+    write-requires
+    note-requires
+    same-length
+    same-length-2
+    same-length-3
+    returns)

@@ -1,3 +1,5 @@
+use mathlib.Core.Path.{refl}
+use Rattle.rules.specs.Tables.{lend}
 use Rattle.planning.proofs.Outcomes.{floor-refused, floorable, floor-done}
 use borrow.Author.Needs.{needs}
 use Rattle.planning.proofs.floor.Statement.{statement}
@@ -7,13 +9,13 @@ floor-fault-requires : tie.Need-floor-fault-requires
 floor-fault-requires c κs = search needs
 
 returns : tie.Need-returns
-returns c = floor-refused (c .before .before .before .before .before .before .args .n) (c .before .before .before .before .before .before .args .widths .now) (c .before .before .before .before .before .before .args .guards .now) (c .before .before .before .before .before .before .args .list .now) _ (c .before .before .floor-fault .ensures) (c .if1 .taken)
+returns c = let a = c .before .before .before .before .before .before .args in floor-refused (a .n) (lend (a .widths .now) (a .guards .now)) (a .list .now) _ (c .before .before .floor-fault .ensures) (c .if1 .taken)
 
 floor-of-requires : tie.Need-floor-of-requires
-floor-of-requires c κs = (c .before .before .before .before .before .before .args .n, floorable (c .before .before .before .before .before .before .args .n) (c .before .before .before .before .before .before .args .widths .now) (c .before .before .before .before .before .before .args .guards .now) (c .before .before .before .before .before .before .args .list .now) _ (c .before .before .floor-fault .ensures) (c .if1 .left))
+floor-of-requires c κs = let a = c .before .before .before .before .before .before .args in (a .n, floorable (a .n) (lend (a .widths .now) (a .guards .now)) (a .list .now) _ (c .before .before .floor-fault .ensures) (c .if1 .left))
 
 returns-2 : tie.Need-returns-2
-returns-2 c = floor-done (c .before .before .before .before .before .before .before .args .n) (c .before .before .before .before .before .before .before .args .widths .now) (c .before .before .before .before .before .before .before .args .guards .now) (c .before .before .before .before .before .before .before .args .list .now) _ (c .before .before .before .floor-fault .ensures) (c .before .if1 .left) _ (c .floor-of .ensures)
+returns-2 c = let a = c .before .before .before .before .before .before .before .args in floor-done (a .n) (lend (a .widths .now) (a .guards .now)) (a .list .now) _ (c .before .before .before .floor-fault .ensures) (c .before .if1 .left) _ (c .floor-of .ensures)
 
 pub floor-spec : {M : Type 1} → statement M
 floor-spec = tie.close (tie.spec floor-fault-requires returns floor-of-requires returns-2)

@@ -1,39 +1,32 @@
-use Rattle.table_laws.specs.Chains.{number-of, size-is, sizes-clear}
-use Rattle.table_laws.specs.Faults.{or-stop, or-on, size-clear}
-use Rattle.rules.specs.Numbers.{floorFault}
-use Rattle.table_laws.specs.Limits.{network-within}
+use mathlib.Core.Path.{refl, ap, _∙_}
+use Rattle.rules.specs.Tables.{lend}
+use Rattle.rules.specs.Numbers.{lentFault, floorFault}
+use Rattle.table_laws.specs.Faults.{or-stop, or-on}
+use Rattle.table_laws.specs.Chains.{number-of, lent-clear}
 use borrow.Author.Needs.{needs}
 use Rattle.planning.proofs.floor_fault.Statement.{statement}
 use Rattle.planning.proofs.floor_fault.Tie as tie
 
-network-sizes-requires : tie.Need-network-sizes-requires
-network-sizes-requires c κs = search needs
+accepted-requires : tie.Need-accepted-requires
+accepted-requires c κs = search needs
+
+lent-fault-requires : tie.Need-lent-fault-requires
+lent-fault-requires c κs = search needs
 
 returns : tie.Need-returns
 unfolding floorFault
-returns c = or-stop _ (c .before .before .network-sizes .ensures) (c .if1 .taken)
+returns c = or-stop _ (c .before .before .lent-fault .ensures ∙ ap (lentFault _ _) (c .before .before .before .accepted .ensures)) (c .if1 .taken)
 
-network-fault-requires : tie.Need-network-fault-requires
-network-fault-requires c κs = sizes-clear _ _ (number-of (c .before .before .network-sizes .ensures) (c .if1 .left))
+list-fault-requires : tie.Need-list-fault-requires
+list-fault-requires c κs = let w = lent-clear _ _ _ (number-of (c .before .before .lent-fault .ensures) (c .if1 .left)) .0 in (w .few, w .guardsSize)
 
 returns-2 : tie.Need-returns-2
 unfolding floorFault
-returns-2 c = or-on _ (c .before .before .before .before .before .network-sizes .ensures) (c .before .before .before .if1 .left) (or-stop _ (c .before .before .network-fault .ensures) (c .if2 .taken))
-
-list-fault-requires : tie.Need-list-fault-requires
-list-fault-requires c κs = let w = network-within _ _ _ (number-of (c .before .before .before .before .before .network-sizes .ensures) (c .before .before .before .if1 .left)) (number-of (c .before .before .network-fault .ensures) (c .if2 .left)) in (w .few, w .guardsSize)
-
-returns-3 : tie.Need-returns-3
-unfolding floorFault
-returns-3 c = or-on _ (c .before .before .before .before .before .before .network-sizes .ensures) (c .before .before .before .before .if1 .left) (or-on _ (c .before .before .before .network-fault .ensures) (c .before .if2 .left) (c .list-fault .ensures (c .before .before .before .before .before .before .before .before .before .before .args .widths .now)))
+returns-2 c =
+    let a = c .before .before .before .before .before .before .before .before .args in
+    or-on _ (c .before .before .before .lent-fault .ensures ∙ ap (lentFault _ _) (c .before .before .before .before .accepted .ensures)) (c .before .if1 .left) (c .list-fault .ensures (lend (a .widths .now) (a .guards .now)) refl)
 
 pub floor-fault-spec : {M : Type 1} → statement M
 floor-fault-spec =
     tie.close
-    (tie.spec
-    network-sizes-requires
-    returns
-    network-fault-requires
-    returns-2
-    list-fault-requires
-    returns-3)
+    (tie.spec accepted-requires lent-fault-requires returns list-fault-requires returns-2)

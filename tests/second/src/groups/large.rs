@@ -79,7 +79,7 @@ fn far_plan(rng: &mut Rng, c: &Case) -> Vec<u16> {
     starts
 }
 
-/// "The highest slot is at most 128 x 64 + 127 x 32 = 12,256": the network that reaches it.
+/// The network that reaches the bound of RULES 5, 12,256.
 fn fullest(t: &mut Tally, rng: &mut Rng) {
     let mut c = gen::case(rng, PATHS, Shape::Density(100));
     c.widths.fill(64);

@@ -80,7 +80,7 @@ fn one(t: &mut Tally, program: &str, text: Vec<u8>, step: usize) {
     t.program(&how, &Case { text, ..Case::default() }, &got, &want);
 }
 
-/// What the program prints, its input delivered in steps. Document 01 names no exit status; an
+/// What the program prints, its input delivered in steps. RULES 19 names no exit status; an
 /// end by a signal is shown as such.
 fn run(program: &str, text: &[u8], step: usize) -> Vec<u8> {
     let started = Command::new(program).stdin(Stdio::piped()).stdout(Stdio::piped()).spawn();

@@ -77,7 +77,7 @@ fn reading(t: &mut Tally, rng: &mut Rng, text: Vec<u8>) {
     }
 }
 
-/// "So a read sheet written, read and written gives the same bytes the second time."
+/// RULES 15: a sheet that is read and written settles.
 fn round_trip(t: &mut Tally, rng: &mut Rng, c: &Case, text: Vec<u8>) {
     let case = junk_tables(rng, text);
     let Some((answer, back)) = compare::read(t, &case) else { return };
@@ -177,7 +177,7 @@ fn every_byte(t: &mut Tally, rng: &mut Rng, part: usize) {
     }
 }
 
-/// Just 2,000 pairs, one more, and many more: "1 for pairs" stands after 12 and before 7.
+/// Just 2,000 pairs, one more, and many more: number 1 for pairs stands after 12 and before 7.
 fn pair_counts(t: &mut Tally, rng: &mut Rng) {
     for wanted in [1_999, 2_000, 2_001, 2_016, 4_000, 8_128] {
         let n = if wanted <= 2_016 { rng.range(64, PATHS) } else { PATHS };

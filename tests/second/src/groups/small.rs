@@ -167,7 +167,7 @@ fn improving(t: &mut Tally, c: &Case, net: &Network) {
     }
 }
 
-/// "No valid plan's highest slot is below it."
+/// Every valid plan reaches a floor (RULES 12).
 fn floors(t: &mut Tally, rng: &mut Rng, c: &Case, best: usize) {
     for _ in 0..3 {
         let c = Case { list: gen::list(rng, c), ..c.clone() };
