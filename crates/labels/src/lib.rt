@@ -1,4 +1,5 @@
-// An inner crate, for the readers and writers of sheets: the table of labels, eight bytes a path, and the keys that labels are compared by.
+// An inner crate, for the readers and writers of sheets: the table of labels, eight bytes a path, and the keys that
+// labels are compared by.
 ghost use mathlib.Core.Path.{_≡_};
 ghost use Prim.Native.Nat.{_+_, _*_, _≤_};
 ghost use lib.ListN.{length};
@@ -10,7 +11,7 @@ ghost use Rattle.rules.specs.Writing.{labelOf, badLabel};
 ghost use Rattle.text.specs.Says.{part};
 ghost use Rattle.labels.specs.Keys.{Key};
 
-// Byte j of the label between two places: "filled at the end with zero bytes".
+// Byte j of the label between two places, and 0 past its end.
 fn label_byte(text: &[u8], place: usize, end: usize, j: usize) -> u8
     requires { ⌜ (place ≤ end) × (end ≤ length (now text)) ⌝ }
     ensures { λ r. ⌜ r ≡ at (part (now (text .entry)) place end) j ⌝ }
@@ -18,7 +19,7 @@ fn label_byte(text: &[u8], place: usize, end: usize, j: usize) -> u8
     if j < end - place { text[place + j] } else { 0 }
 }
 
-// The eight bytes of the label between two places as one number: labels are "compared as bytes", all eight at once.
+// The eight bytes of the label between two places as one number: one test then compares all of them.
 pub fn label_key(text: &[u8], place: usize, end: usize) -> usize
     requires { ⌜ (place ≤ end) × (end ≤ length (now text)) ⌝ }
     ensures { λ r. ⌜ Key (at (part (now (text .entry)) place end)) r ⌝ }
@@ -84,7 +85,7 @@ pub fn label_length(labels: &[u8], k: usize) -> usize
     j
 }
 
-// 11, in the writer: path k's row is no label "filled at the end with zero bytes".
+// 11, in the writer: path k's row is no label with zeros after it.
 pub fn bad_label(labels: &[u8], k: usize) -> bool
     requires { ⌜ 8 * k + 8 ≤ length (now labels) ⌝ }
     ensures { λ r. ⌜ r ≡ badLabel (now (labels .entry)) k ⌝ }

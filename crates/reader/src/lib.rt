@@ -7,7 +7,7 @@ ghost use Rattle.rules.specs.Calls.{left, readOutcome};
 ghost use Rattle.sheet_laws.specs.Sizes.{Sized};
 ghost use Rattle.reader.specs.Blank.{Blank};
 use rules::SheetRead;
-use sections::Whole;
+use whole_sheet::Whole;
 
 fn fill_bytes(table: &mut [u8], value: u8)
     ensures { λ _. ⌜ now (table .exit) ≡ cleared (length (now (table .entry))) value ⌝ }
@@ -29,7 +29,7 @@ fn fill_numbers(table: &mut [u16], value: u16)
     }
 }
 
-// A cleared table holds 0, that of the guards "no conflict".
+// A cleared table holds 0 in every cell, that of the guards "no conflict".
 fn clear(labels: &mut [u8], widths: &mut [u16], guards: &mut [u8], starts: &mut [u16])
     requires { ⌜ Sized (now labels) (now widths) (now guards) (now starts) ⌝ }
     ensures { λ _. ⌜ Blank (now (labels .exit)) (now (widths .exit)) (now (guards .exit)) (now (starts .exit)) ⌝ }
@@ -53,7 +53,7 @@ pub fn read_sized(
         ≡ readOutcome (sheetFrom (cleared 1024 0) clearedNetwork (cleared 128 0) (now (text .entry))) ⌝ }
 {
     clear(labels, widths, guards, starts);
-    match sections::sheet_parts(text, labels, widths, guards, starts) {
+    match whole_sheet::sheet_parts(text, labels, widths, guards, starts) {
         Whole::Sheet(n) => SheetRead {
             number: 0,
             place: 0,

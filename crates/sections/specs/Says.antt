@@ -1,16 +1,13 @@
--- What the sections answer, against the definitions of the rules. A place in a text stands for the text from there on.
+-- What the lines of a section answer, against the definitions of the rules. A place in a text stands for the text from there on.
 -- Assumes nothing.
 use Prim.Native.Nat.{ℕ, _≤_}
 use mathlib.Core.Path.{_≡_}
-use mathlib.Core.List.{List, []}
+use mathlib.Core.List.{List}
 use lib.ListN.{length, drop}
-use Rattle.rules.specs.Tables.{Lent, lend}
 use Rattle.rules.specs.Sheet.{Section, halt, done}
 use Rattle.labels.specs.Keys.{Keyed}
 use Rattle.sections.specs.declared.Part.{Part}
 use Rattle.sections.specs.declared.Part.the-variants.{Over, Halt}
-use Rattle.sections.specs.declared.Whole.{Whole}
-use Rattle.sections.specs.declared.Whole.the-variants.{Sheet, Stop}
 
 -- a section's answer, over tables of which t is what stands in them afterwards; a refused one leaves them anyhow
 abbrev pub SectionIs : {T : Type 0} → List ℕ → T → Section T → Part → Type 0
@@ -24,8 +21,3 @@ PartWithin s (Over e) = e ≤ length s
 abbrev pub PathsAre : List ℕ → List ℕ → List ℕ → List ℕ → ℕ → Section (List ℕ × List ℕ) → Part → Type 0
 PathsAre s labels widths keys n x (Halt number line) = x ≡ halt number line
 PathsAre s labels widths keys n x (Over e) = (x ≡ done (labels, widths) (drop e s)) × (e ≤ length s) × Keyed labels keys n
-
--- a whole sheet's answer
-abbrev pub WholeIs : List ℕ → List ℕ → List ℕ → List ℕ → Section (ℕ × List ℕ × Lent × List ℕ) → Whole → Type 0
-WholeIs labels widths guards starts x (Stop number line) = x ≡ halt number line
-WholeIs labels widths guards starts x (Sheet n) = x ≡ done (n, labels, lend widths guards, starts) []

@@ -102,7 +102,7 @@ pub fn pair_count(n: usize, guards: &[u8]) -> usize
     count
 }
 
-// "if any of the n starts is not zero"
+// There is a plan: one of the n starts is not 0.
 pub fn has_plan(n: usize, starts: &[u16]) -> bool
     requires { ⌜ (n ≤ 128) × (length (now starts) ≡ 128) ⌝ }
     ensures { λ r. ⌜ r ≡ hasPlan n (now (starts .entry)) ⌝ }
@@ -117,7 +117,7 @@ pub fn has_plan(n: usize, starts: &[u16]) -> bool
     false
 }
 
-// 7: "a zero among them is then refused".
+// 7, where there is a plan: a start that is 0 or over 16,384.
 fn plan_fault(n: usize, starts: &[u16]) -> Fault
     requires { ⌜ (n ≤ 128) × (length (now starts) ≡ 128) ⌝ }
     ensures { λ r. ⌜ r ≡ planFault n (now (starts .entry)) ⌝ }

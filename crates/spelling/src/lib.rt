@@ -1,4 +1,5 @@
-// An inner crate, for the writers of sheets: the fields of a line and the lines that they make, put into a text, and how long they are.
+// An inner crate, for the writers of sheets: the fields of a line and the lines that they make, put into a text, and
+// how long they are.
 ghost use mathlib.Core.Path.{_≡_};
 ghost use mathlib.Core.List.{_++_};
 ghost use Prim.Native.Nat.{_+_, _*_, _≤_, _<_};
@@ -147,7 +148,7 @@ pub fn guard_line_length(labels: &[u8], guards: &[u8], i: usize, j: usize) -> us
         + 1
 }
 
-// Puts the line of paths i and j, "the earlier path first", where they have one.
+// Puts the line of paths i and j, of which i is the earlier, where they have one.
 pub fn put_guard_line(
     text: &mut [u8],
     place: usize,

@@ -1,12 +1,12 @@
-// An inner crate, for the readers of sheets: the fields of a line, and the lines that they make. A text is its bytes, and a place in it stands
-// for the text from there on.
+// An inner crate, for the readers of sheets: the fields of a line, and the lines that they make.
+// A text is its bytes, and a place in it stands for the text from there on.
 ghost use mathlib.Core.Path.{_≡_};
 ghost use Prim.Native.Nat.{_+_, _-_, _≤_, _<_};
 ghost use lib.ListN.{length, drop};
 ghost use Rattle.rules.specs.Text.{run, isDigit, valueFrom};
 ghost use Rattle.text.specs.Says.{classOf, WordIs, LabelIs, NumberIs, LastIs, CountIs, PathLineIs};
 
-// The section words are "compared byte by byte, lower case": the reader compares these, and the writer writes them.
+// The section words: the reader compares these byte by byte, and the writer writes them.
 pub const PATHS_WORD: [u8; 5] = *b"paths";
 
 pub const GUARDS_WORD: [u8; 6] = *b"guards";
@@ -31,7 +31,7 @@ pub enum PathLine {
     Malformed,
 }
 
-// A label is of "digits, capitals and hyphen", a number of digits.
+// A byte of a label is a digit, a capital or the hyphen; a byte of a number is a digit.
 pub fn in_class(b: u8, label: bool) -> bool
     ensures { λ r. ⌜ r ≡ classOf label b ⌝ }
 {
@@ -90,7 +90,7 @@ fn value(text: &[u8], place: usize, end: usize) -> usize
     v
 }
 
-// "A number has 1 to 5 digits and no leading zero, save 0 itself."
+// A number: one to five digits, of which the first is not 0 unless it stands alone.
 pub fn number(text: &[u8], place: usize) -> Amount
     requires { ⌜ place ≤ length (now text) ⌝ }
     ensures { λ r. ⌜ NumberIs (now (text .entry)) place r ⌝ }
@@ -113,7 +113,7 @@ pub fn number(text: &[u8], place: usize) -> Amount
     Amount::Is(v, end)
 }
 
-// "A label is 1 to 8 of digits, capitals and hyphen."
+// A label: one to eight bytes.
 pub fn label(text: &[u8], place: usize) -> Next
     requires { ⌜ place ≤ length (now text) ⌝ }
     ensures { λ r. ⌜ LabelIs (now (text .entry)) place r ⌝ }
@@ -129,7 +129,7 @@ pub fn label(text: &[u8], place: usize) -> Next
     Next::At(end)
 }
 
-// Fixed bytes: "compared byte by byte".
+// Fixed bytes.
 pub fn word(text: &[u8], place: usize, w: &[u8]) -> Next
     requires { ⌜ place ≤ length (now text) ⌝ }
     ensures { λ r. ⌜ WordIs (now (text .entry)) place (now (w .entry)) r ⌝ }

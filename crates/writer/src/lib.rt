@@ -1,4 +1,5 @@
-// An inner crate, for `sheet`: a sheet written from tables that were tested, and its length, known before the first byte is written.
+// An inner crate, for `sheet`: a sheet written from tables that were tested, and its length, which is known before the
+// first byte is written.
 ghost use mathlib.Core.Path.{_≡_};
 ghost use Prim.Native.Nat.{_+_, _*_, _≤_, _<_};
 ghost use lib.ListN.{length};
@@ -87,7 +88,7 @@ fn put_paths(text: &mut [u8], place: usize, n: usize, labels: &[u8], table: &[u1
     p
 }
 
-// Puts the lines of path i and the later paths: sorted "by first, then second path".
+// Puts the lines of path i and the later paths, in the order of the later ones.
 fn put_row_lines(
     text: &mut [u8],
     place: usize,

@@ -2,8 +2,8 @@ use borrow.Author.Needs.{needs}
 use denote.Ref.{now}
 use Rattle.rules.specs.Tables.{lend}
 use Rattle.rules.specs.Sheet.{sheetFrom}
-use Rattle.sections.specs.Says.{WholeIs}
-use Rattle.sections.specs.declared.Whole.the-variants.{Sheet, Stop}
+use Rattle.whole_sheet.specs.Says.{WholeIs}
+use Rattle.whole_sheet.specs.declared.Whole.the-variants.{Sheet, Stop}
 use Rattle.reader.proofs.Outcomes.{read-done, read-halt}
 use Rattle.reader.proofs.read_sized.Statement.{statement}
 use Rattle.reader.proofs.read_sized.Tie as tie

@@ -9,11 +9,11 @@ use Rattle.rules.specs.Text.{pathsWord}
 use Rattle.rules.specs.Sheet.{lines, pathStep, guardsPart}
 use Rattle.text.specs.Says.{CountIs}
 use Rattle.text.specs.declared.Amount.the-variants.{Is, Unread}
 use Rattle.sections.specs.Says.{SectionIs, PathsAre}
 use Rattle.sections.specs.declared.Part.the-variants.{Over, Halt}
 use Rattle.sheet_laws.specs.Lines.{sheet-ill, sheet-few, sheet-many, sheet-halt, sheet-later, sheet-done}
-use Rattle.sections.proofs.sheet_parts.Statement.{statement}
-use Rattle.sections.proofs.sheet_parts.Tie as tie
+use Rattle.whole_sheet.proofs.sheet_parts.Statement.{statement}
+use Rattle.whole_sheet.proofs.sheet_parts.Tie as tie
 
 at-n : (c : tie.After-n) → CountIs (now (c .before .before .before .before .before .before .before .before .before .args .text)) 0 pathsWord (Is (c .n .given .0 .0) (c .n .given .0 .1 .0))
 at-n c = rw (c .n .given .1) at (c .before .before .count-line .ensures)
