@@ -25,3 +25,5 @@ pub mod SheetTrip
 pub mod SameBytes
 pub mod Longest
 pub mod ReadBack
+-- demand 1: what a call refuses, and what a refusal leaves
+pub mod Tests
