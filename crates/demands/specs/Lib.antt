@@ -27,3 +27,5 @@ pub mod Longest
 pub mod ReadBack
 -- demand 1: what a call refuses, and what a refusal leaves
 pub mod Tests
+pub mod Words
+pub mod OnRefusing

@@ -77,7 +77,7 @@ startTest n starts = each 7 n (λ k. Outside 1 16384 (at starts k))
 
 -- 8: conflicting pair, i<j, too close: neither starts above the other's end plus their guard
 abbrev pub clashTest : ℕ → Net → List ℕ → Test
-clashTest n net starts = cells 8 n (λ i j. (i < j) × Conflict net i j × ((Clear net (at starts) i j ⊎ Clear net (at starts) j i) → ⊥))
+clashTest n net starts = cells 8 n (λ i j. (i < j) × (Conflict net i j × ((Clear net (at starts) i j ⊎ Clear net (at starts) j i) → ⊥)))
 
 -- 9: no two sides: there is no way to put each path on a side so that every conflict joins low to high
 abbrev pub sidesTest : ℕ → Net → Test
@@ -98,7 +98,7 @@ memberTest n net list =
 
 -- "digits, capitals and hyphen"
 abbrev pub LabelByte : ℕ → Type 0
-LabelByte x = ((48 ≤ x) × (x ≤ 57)) ⊎ (((65 ≤ x) × (x ≤ 90)) ⊎ (x ≡ 45))
+LabelByte x = (((48 ≤ x) × (x ≤ 57)) ⊎ ((65 ≤ x) × (x ≤ 90))) ⊎ (x ≡ 45)
 
 -- path k's eight bytes are a label: "1 to 8" such bytes, "filled at the end with zero bytes"
 pub record Labelled (labels : List ℕ) (k : ℕ) : Type 0 where
