@@ -1,13 +1,13 @@
 -- Tests in their order: the one law by which a chain of tests gives what document 01's words give. Assumes nothing.
 use Prim.Native.Nat.{ℕ, _≤_, _<_}
 use mathlib.Core.Path.{_≡_, refl, sym, ap, subst, _∙_}
-use mathlib.Core.Logic.{_≢_, _⊎_, inl, inr, _↔_}
-use mathlib.Core.Bool.{Bool, true, false, cond, true≢false}
+use mathlib.Core.Logic.{_⊎_, inl, inr, _↔_}
+use mathlib.Core.Bool.{Bool, true, false, cond}
 use mathlib.Core.List.{List, [], _∷_, _++_}
 use native.Mathlib.Omega.{arith}
 use native.Mathlib.Decide.{decLt}
 use lib.Dec.{eqb}
-use borrow.Author.Tests.{eqb-true, eqb-false}
+use borrow.Author.Tests.{eqb-true}
 use Rattle.rules.specs.declared.Fault.{Fault}
 use Rattle.rules.specs.Tables.{cell}
 use Rattle.rules.specs.Scan.{first, found}
@@ -69,6 +69,11 @@ square-gives m n P bad pos few t = go (first (λ i. found (bad i) n) n) (first-i
             before i j y x (yes z) = found-not (bad i) n (h i z) j y
             before i j y x (no z) = let s : i ≡ r = omega arith in rw s (k j (omega arith))
 
+-- no test
+pub gives-done : Gives [] noFault
+unfolding Gives
+gives-done = refl
+
 -- one test after another: the second is asked where the first found nothing
 pub gives-append : (ts us : List Test) (f g : Fault) → Gives ts f → (f .number ≡ 0 → Gives us g) → Gives (ts ++ us) (f orElse g)
 unfolding Gives
@@ -90,7 +95,21 @@ gives-one (t ∷ ts) f g (inl a) (inr (n, b)) = absurd (n (f .place) (a .bad))
 gives-one (t ∷ ts) f g (inr (n, a)) (inl b) = absurd (n (g .place) (b .bad))
 gives-one (t ∷ ts) f g (inr (n, a)) (inr (m, b)) = gives-one ts f g a b
 
--- 0 has place 0
+-- so what tests give is given by nothing else
+pub gives-exact : (ts : List Test) (f g : Fault) → Gives ts f → Gives ts g ↔ (g ≡ f)
+gives-exact ts f g h = (λ k. gives-one ts g f k h, λ e. subst (Gives ts) (sym e) h)
+
+-- 0 is given exactly where no test finds anything at fault; its place is 0
+abbrev pub Faultless : List Test → Type 0
+Faultless [] = Unit {0}
+Faultless (t ∷ ts) = Nowhere t × Faultless ts
+
+pub gives-zero : (ts : List Test) (f : Fault) → Gives ts f → (f .number ≡ 0) ↔ Faultless ts
+unfolding Gives
+gives-zero [] f e = (λ z. tt, λ c. clear-of e)
+gives-zero (t ∷ ts) f (inl r) = (λ z. absurd (omega (arith, r .some)), λ c. absurd (c .0 (f .place) (r .bad)))
+gives-zero (t ∷ ts) f (inr (n, r)) = (λ z. (n, gives-zero ts f r .0 z), λ c. gives-zero ts f r .1 (c .1))
+
 pub gives-none : (ts : List Test) (f : Fault) → Gives ts f → f .number ≡ 0 → f ≡ noFault
 unfolding Gives
 gives-none [] f e z = e
