@@ -29,3 +29,4 @@ pub mod ReadBack
 pub mod Tests
 pub mod Words
 pub mod OnRefusing
+pub mod OnAccepting
