@@ -30,3 +30,4 @@ pub mod Tests
 pub mod Words
 pub mod OnRefusing
 pub mod OnAccepting
+pub mod OnLeaving
