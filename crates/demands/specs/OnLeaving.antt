@@ -5,11 +5,10 @@ use mathlib.Core.Path.{_≡_, refl, sym, ap, _∙_}
 use mathlib.Core.Logic.{_≢_}
 use mathlib.Core.Bool.{Bool, true, false, cond}
 use mathlib.Core.List.{List, _++_}
-use mathlib.Mathlib.Data.List.GetD.{List·getD-append-right}
 use native.Mathlib.Omega.{arith}
 use native.Mathlib.Decide.{decLt}
 use lib.ListN.{length, set, drop, length-set, length-append, length-drop}
-use lib.Seq.{getD-drop}
+use lib.Seq.{getD-drop, getD-append-add}
 use lib.Dec.{eqb}
 use Rattle.rules.specs.declared.Fault.{Fault}
 use Rattle.rules.specs.declared.Packed.{Packed}
@@ -30,7 +29,9 @@ use Rattle.rules.specs.Calls.{Left, unless, refusedPacked, donePacked, packing,
 use Rattle.table_laws.specs.Tables.{at-other, cleared-length}
 use Rattle.plan_laws.specs.Arranged.{arranged-order}
 use Rattle.plan_laws.specs.Improve.{place-below, draw-below, round-kept, round-left}
-use Rattle.plan_laws.specs.Answers.{unless-done, pressing-judgeable, judgeable-pressing, packing-packable, packable-packing, siding-done, sidable-siding, improving-packable, packable-improving, planning-plannable, plannable-planning}
+use Rattle.plan_laws.specs.Answers.{unless-done, pressing-judgeable, judgeable-pressing, Packable, packing-packable, packable-packing, siding-done, sidable-siding, improving-packable, packable-improving, planning-plannable, plannable-planning}
+use Rattle.plan_laws.specs.Runs.{runAfter, run-packable}
+use Rattle.demands.specs.OnPlanning.{sided, greedyPackable}
 use Rattle.demands.specs.Writable.{writing-writable, clear-write}
 
 -- A call that refuses where its tests find a fault and else is done: an answer that is not 0 is the refusal
@@ -143,3 +144,80 @@ rounds-kept highestOf n pos t (suc k) r h = go (decLt (highestOf (tried n q)) (q
     go : Dec (highestOf (tried n q) < q .highest) → KeptFrom n t (q .order) → KeptFrom n t (round highestOf n q .order)
     go (yes l) h = rw (round-kept highestOf n pos q l .0) (swap h)
     go (no l) h = rw (round-left highestOf n pos q (omega arith) .0) h
+
+pub packing-past : (n : ℕ) (lent : Lent) (order starts : List ℕ) → packing n lent order starts .answer .number ≡ 0
+    → KeptFrom n starts (packing n lent order starts .tables)
+unfolding donePacked
+packing-past n lent order starts z =
+    let p = packing-packable n lent order starts z in
+    rw (packable-packing n lent order starts p) (packed-kept (lowest (netOf lent)) (at order) starts n n (p .whole .inside))
+
+pub pressing-past : (n : ℕ) (lent : Lent) (starts : List ℕ) → pressing n lent starts .answer .number ≡ 0
+    → KeptFrom n starts (pressing n lent starts .tables)
+unfolding donePacked pressed
+pressing-past n lent starts z =
+    let j = pressing-judgeable n lent starts z in
+    let o = arranged-order (λ s i k. at starts k) n (cleared 128 0) (omega (arith, cleared-length 128 0, j .network .few)) n (omega arith) in
+    rw (judgeable-pressing n lent starts j) (packed-kept (lowest (netOf lent)) (at (byStart n (at starts) (cleared 128 0) n)) starts n n (o .inside))
+
+sided-kept : (high : ℕ → Bool) (n : ℕ) (order : List ℕ) → KeptFrom n order (twoSided n high order)
+unfolding twoSided
+sided-kept high n order = arranged-kept (λ s i k. cond (high k) 1 0) n order n (omega arith)
+
+pub siding-past : (n : ℕ) (lent : Lent) (order : List ℕ) → siding n lent order .answer .number ≡ 0
+    → KeptFrom n order (siding n lent order .tables)
+siding-past n lent order z =
+    let s = siding-done n lent order z in
+    rw (sidable-siding n lent order (s .0) (s .1)) (sided-kept (isHigh (netOf lent) n) n order)
+
+-- the order that was lent and the starts that were lent, after an order that keeps the first has been packed into the second
+module _ (n : ℕ) (lent : Lent) (order starts : List ℕ) where
+  planned-kept : (o : List ℕ) (kept : ℕ) → KeptFrom n order o → ((i : ℕ) → i < n → at o i < n)
+      → KeptFrom n order (donePlanned (netOf lent) n o starts kept .tables .0) × KeptFrom n starts (donePlanned (netOf lent) n o starts kept .tables .1)
+  unfolding donePlanned
+  planned-kept o kept h inside = (h, packed-kept (lowest (netOf lent)) (at o) starts n n inside)
+
+  improved-kept : (o : List ℕ) (seed k : ℕ) → KeptFrom n order o → Packable n lent o starts
+      → KeptFrom n order (doneImproved (netOf lent) n o starts seed k .tables .0) × KeptFrom n starts (doneImproved (netOf lent) n o starts seed k .tables .1)
+  unfolding doneImproved
+  improved-kept o seed k h p =
+      planned-kept (runAfter n lent o starts seed k .order) _ (after k) (run-packable n lent o starts seed p k .whole .inside)
+    where
+      after : (k : ℕ) → KeptFrom n order (runAfter n lent o starts seed k .order)
+      after k = unfold improved in (rounds-kept _ n (p .network .some) order k _ h)
+
+  pub improving-past : (seed k : ℕ) → improving n lent order starts seed k .answer .number ≡ 0
+      → KeptFrom n order (improving n lent order starts seed k .tables .0) × KeptFrom n starts (improving n lent order starts seed k .tables .1)
+  improving-past seed k z =
+      let p = improving-packable n lent order starts seed k z in
+      rw (packable-improving n lent order starts seed k (p .0) (p .1)) (improved-kept order seed k (kept-none n order) (p .0))
+
+  pub planning-past : (seed k : ℕ) → planning n lent order starts seed k .answer .number ≡ 0
+      → KeptFrom n order (planning n lent order starts seed k .tables .0) × KeptFrom n starts (planning n lent order starts seed k .tables .1)
+  unfolding donePlan
+  planning-past seed k z = rw (plannable-planning n lent order starts seed k (planning-plannable n lent order starts seed k z)) (go (hasSides (netOf lent) n))
+    where
+      go : (b : Bool)
+          → KeptFrom n order (cond b (donePlanned (netOf lent) n (twoSided n (isHigh (netOf lent) n) order) starts 0)
+              (doneImproved (netOf lent) n (greedy (lowest (netOf lent)) n starts order n) starts seed k) .tables .0)
+          × KeptFrom n starts (cond b (donePlanned (netOf lent) n (twoSided n (isHigh (netOf lent) n) order) starts 0)
+              (doneImproved (netOf lent) n (greedy (lowest (netOf lent)) n starts order n) starts seed k) .tables .1)
+      go true = planned-kept _ 0 (sided-kept (isHigh (netOf lent) n) n order) (sided n lent order starts seed k z .whole .inside)
+      go false = improved-kept _ seed k (arranged-kept (startNext (lowest (netOf lent)) starts) n order n (omega arith)) (greedyPackable n lent order starts seed k z)
+
+-- the text past what is written
+pub writing-past : (n : ℕ) (labels : List ℕ) (lent : Lent) (starts text : List ℕ) → writing n labels lent starts text .answer .number ≡ 0
+    → KeptFrom (writing n labels lent starts text .answer .length) text (writing n labels lent starts text .tables)
+unfolding writing
+writing-past n labels lent starts text z =
+    let w = writing-writable n labels lent starts text z in
+    rw (unless-done (writeFault n labels lent starts text) _ _ (clear-write n labels lent starts text (w .0) (w .1)))
+    (over (sheetText n labels lent starts) (w .1))
+  where
+    over : (s : List ℕ) → length s ≤ length text → KeptFrom (length s) text (s ++ drop (length s) text)
+    over s l = record {
+      size = omega (arith, length-append s (drop (length s) text), length-drop (length s) text);
+      cells = λ k g. let e : length s + (k - length s) ≡ k = omega arith in
+          ap (at (s ++ drop (length s) text)) (sym e) ∙ getD-append-add s (drop (length s) text) (k - length s) 0 ∙ getD-drop (length s) text (k - length s) 0
+          ∙ ap (at text) e;
+    }

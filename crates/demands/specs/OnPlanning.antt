@@ -36,7 +36,7 @@ module _ (n : ℕ) (lent : Lent) (order starts : List ℕ) (seed rounds : ℕ) (
   room = omega (arith, plannable .orderSize, plannable .network .few)
 
   -- where there are two sides: the two-sided order, packed, with none kept
-  sided : Packable n lent (twoSided n (isHigh net n) order) starts
+  pub sided : Packable n lent (twoSided n (isHigh net n) order) starts
   sided = record {
     network = plannable .network;
     orderSize = sided-length n (isHigh net n) order room ∙ plannable .orderSize;
@@ -69,7 +69,7 @@ module _ (n : ℕ) (lent : Lent) (order starts : List ℕ) (seed rounds : ℕ) (
     planning-none-kept = rw sided-is
 
   -- where there are none: what improving the greedy order leaves
-  greedyPackable : Packable n lent (greedy (lowest net) n starts order n) starts
+  pub greedyPackable : Packable n lent (greedy (lowest net) n starts order n) starts
   greedyPackable = record {
     network = plannable .network;
     orderSize = arranged-length (startNext (lowest net) starts) n order room n ∙ plannable .orderSize;
