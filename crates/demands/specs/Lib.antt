@@ -12,6 +12,7 @@ pub mod OnSiding
 pub mod OnPlanning
 pub mod OnPressing
 pub mod OnFlooring
+pub mod OnBetter
 -- no second answer, and programs that are unfit
 pub mod OneAnswer
 pub mod Witness
