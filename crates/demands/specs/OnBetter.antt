@@ -51,11 +51,17 @@ module _ (n : ℕ) (lent : Lent) (order starts others : List ℕ) (same : length
       go : Dec (packFault n lent order starts .number ≡ 0) → packing n lent order starts .answer ≡ packing n lent order others .answer
       go (yes z) =
           let p = pack-clear n lent order starts z in unfold donePacked in
-          (rw (packable-packing n lent order starts p, packable-packing n lent order others (other p),
-          highest-same (netOf lent) _ _ n (agree p)))
+          (rw (
+            packable-packing n lent order starts p,
+            packable-packing n lent order others (other p),
+            highest-same (netOf lent) _ _ n (agree p),
+          ))
       go (no z) = unfold packing refusedPacked in
-          (rw (unless-refused (packFault n lent order starts) (refusedPacked starts) _ z,
-          ← fault-same, unless-refused (packFault n lent order starts) (refusedPacked others) _ z))
+          (rw (
+            unless-refused (packFault n lent order starts) (refusedPacked starts) _ z,
+            ← fault-same,
+            unless-refused (packFault n lent order starts) (refusedPacked others) _ z,
+          ))
 
 -- so what `better` goes by is what packing answers for each of the two, whatever table of starts it is lent
 pub packed-answer : (n : ℕ) (lent : Lent) (order starts : List ℕ) → length starts ≡ 128 → packing n lent order starts .answer ≡ packedAnswer n lent order
@@ -86,7 +92,7 @@ module _ (n : ℕ) (lent : Lent) (first second part : RefT (List ℕ)) (better :
     where
       go : (b : Bool)
           → Part (cond (eqb (cond {A = ℕ} (not b || true) 0 (cond (ltb (two .highest) (one .highest)) 2 1)) 2) second first)
-              (cond (eqb (cond {A = ℕ} (not b || true) 0 (cond (ltb (two .highest) (one .highest)) 2 1)) 0) 0 n) part
+          (cond (eqb (cond {A = ℕ} (not b || true) 0 (cond (ltb (two .highest) (one .highest)) 2 1)) 0) 0 n) part
           → Part first 0 part
       go true h = h
       go false h = h

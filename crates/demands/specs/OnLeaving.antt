@@ -49,7 +49,7 @@ pub packing-refused : (n : ℕ) (lent : Lent) (order starts : List ℕ) → pack
 unfolding packing refusedPacked donePacked
 packing-refused n lent order starts z =
     let e = unless-is (λ (r : Left Packed (List ℕ)). r .answer .number) (packFault n lent order starts) (refusedPacked starts)
-        (donePacked (netOf lent) n (packed (lowest (netOf lent)) (at order) starts n)) refl z in
+    (donePacked (netOf lent) n (packed (lowest (netOf lent)) (at order) starts n)) refl z in
     (ap (λ (r : Left Packed (List ℕ)). r .answer .highest) e, ap (λ (r : Left Packed (List ℕ)). r .tables) e)
 
 pub pressing-refused : (n : ℕ) (lent : Lent) (starts : List ℕ) → pressing n lent starts .answer .number ≢ 0
@@ -57,7 +57,7 @@ pub pressing-refused : (n : ℕ) (lent : Lent) (starts : List ℕ) → pressing 
 unfolding pressing refusedPacked donePacked
 pressing-refused n lent starts z =
     let e = unless-is (λ (r : Left Packed (List ℕ)). r .answer .number) (judgeFault n lent starts) (refusedPacked starts)
-        (donePacked (netOf lent) n (pressed (netOf lent) n starts)) refl z in
+    (donePacked (netOf lent) n (pressed (netOf lent) n starts)) refl z in
     (ap (λ (r : Left Packed (List ℕ)). r .answer .highest) e, ap (λ (r : Left Packed (List ℕ)). r .tables) e)
 
 pub siding-refused : (n : ℕ) (lent : Lent) (order : List ℕ) → siding n lent order .answer .number ≢ 0
@@ -75,7 +75,7 @@ module _ (n : ℕ) (lent : Lent) (order starts : List ℕ) (seed k : ℕ) where
   unfolding improving refusedPlanned doneImproved donePlanned
   improving-refused z =
       let e = unless-is (λ (r : Left Planned (List ℕ × List ℕ)). r .answer .number) (improveFault n lent order starts k) (refusedPlanned order starts)
-          (doneImproved (netOf lent) n order starts seed k) refl z in
+      (doneImproved (netOf lent) n order starts seed k) refl z in
       (ap (λ (r : Left Planned (List ℕ × List ℕ)). r .answer .highest) e, ap (λ (r : Left Planned (List ℕ × List ℕ)). r .answer .kept) e, ap (λ (r : Left Planned (List ℕ × List ℕ)). r .tables) e)
 
   abbrev plan : Left Planned (List ℕ × List ℕ)
@@ -93,7 +93,7 @@ module _ (n : ℕ) (lent : Lent) (order starts : List ℕ) (seed k : ℕ) where
   unfolding planning refusedPlanned
   planning-refused z =
       let e = unless-is (λ (r : Left Planned (List ℕ × List ℕ)). r .answer .number) (planFault n lent order starts k) (refusedPlanned order starts)
-          (donePlan (netOf lent) n order starts seed k) done-zero z in
+      (donePlan (netOf lent) n order starts seed k) done-zero z in
       (ap (λ (r : Left Planned (List ℕ × List ℕ)). r .answer .highest) e, ap (λ (r : Left Planned (List ℕ × List ℕ)). r .answer .kept) e, ap (λ (r : Left Planned (List ℕ × List ℕ)). r .tables) e)
 
 pub flooring-refused : (n : ℕ) (lent : Lent) (list : List ℕ) → flooring n lent list .number ≢ 0 → flooring n lent list .floor ≡ 0
@@ -199,9 +199,9 @@ module _ (n : ℕ) (lent : Lent) (order starts : List ℕ) where
     where
       go : (b : Bool)
           → KeptFrom n order (cond b (donePlanned (netOf lent) n (twoSided n (isHigh (netOf lent) n) order) starts 0)
-              (doneImproved (netOf lent) n (greedy (lowest (netOf lent)) n starts order n) starts seed k) .tables .0)
+          (doneImproved (netOf lent) n (greedy (lowest (netOf lent)) n starts order n) starts seed k) .tables .0)
           × KeptFrom n starts (cond b (donePlanned (netOf lent) n (twoSided n (isHigh (netOf lent) n) order) starts 0)
-              (doneImproved (netOf lent) n (greedy (lowest (netOf lent)) n starts order n) starts seed k) .tables .1)
+          (doneImproved (netOf lent) n (greedy (lowest (netOf lent)) n starts order n) starts seed k) .tables .1)
       go true = planned-kept _ 0 (sided-kept (isHigh (netOf lent) n) n order) (sided n lent order starts seed k z .whole .inside)
       go false = improved-kept _ seed k (arranged-kept (startNext (lowest (netOf lent)) starts) n order n (omega arith)) (greedyPackable n lent order starts seed k z)
 

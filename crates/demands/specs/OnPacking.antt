@@ -97,13 +97,16 @@ module _ (n : ℕ) (lent : Lent) (order starts : List ℕ) (zero-answer : packin
   unfolding donePacked
   packing-clear i j h l c =
       rw packing-is
-      (omega (arith, respects-keeps (netOf lent) n (at order) (packable .whole) (at (packedStarts n lent order starts))
-      (respected (netOf lent) n (at order) (packable .whole) starts (room n lent order starts packable)) i j h l c))
+      (omega (
+        arith,
+        respects-keeps (netOf lent) n (at order) (packable .whole) (at (packedStarts n lent order starts))
+            (respected (netOf lent) n (at order) (packable .whole) starts (room n lent order starts packable)) i j h l c,
+      ))
 
   pub packing-lowest : (i : ℕ) → i < n
       → (at (packing n lent order starts .tables) (at order i) ≡ 1)
       ⊎ ((j : ℕ) × (j < i) × Conflict (netOf lent) (at order j) (at order i)
-          × (at (packing n lent order starts .tables) (at order i) ≡ past (netOf lent) (at order j) (at order i) (at (packing n lent order starts .tables) (at order j))))
+      × (at (packing n lent order starts .tables) (at order i) ≡ past (netOf lent) (at order j) (at order i) (at (packing n lent order starts .tables) (at order j))))
   unfolding donePacked
   packing-lowest i l = rw packing-is
       (rw (packs (netOf lent) n (at order) (packable .whole) starts (room n lent order starts packable) (lowest (netOf lent)) (lowest-local (netOf lent)) i l)

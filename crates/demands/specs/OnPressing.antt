@@ -135,6 +135,8 @@ module _ (n : ℕ) (lent : Lent) (order reverse starts others : List ℕ) (zero-
       × (packing n lent order starts .answer .highest ≡ packing n lent reverse others .answer .highest)
   unfolding donePacked
   packing-reverse =
-      rw (packable-packing n lent order starts packable, packable-packing n lent reverse others reverse-packable)
-      (refl, reverse-law (netOf lent) n (network-good n lent (packable .network)) (λ k l. refl) (at order) (at reverse) (packable .whole)
-          (reverse-packable .whole) rev starts others (omega (arith, packable .startsSize, packable .network .few)) (omega (arith, packable .network .few)))
+      rw (packable-packing n lent order starts packable, packable-packing n lent reverse others reverse-packable) (
+        refl,
+        reverse-law (netOf lent) n (network-good n lent (packable .network)) (λ k l. refl) (at order) (at reverse) (packable .whole)
+            (reverse-packable .whole) rev starts others (omega (arith, packable .startsSize, packable .network .few)) (omega (arith, packable .network .few)),
+      )

@@ -167,7 +167,7 @@ untouched-unfit program meets untouched =
 -- round left
 pub idle-unfit : (program : ℕ × Lent × Table × Table × ℕ × ℕ → Left Planned (Table × Table)) → Meets program improvingOf
     → ((n : ℕ) (lent : Lent) (order starts : Table) (seed more : ℕ) → program (n, lent, order, starts, seed, suc more) .answer .number ≡ 0
-        → program (n, lent, order, starts, seed, suc more) ≡ program (n, lent, order, starts, seed, 1))
+    → program (n, lent, order, starts, seed, suc more) ≡ program (n, lent, order, starts, seed, 1))
     → ⊥
 idle-unfit program meets idles =
     omega (

@@ -42,17 +42,17 @@ module _ (n : ℕ) (lent : Lent) (order starts : List ℕ) (seed : ℕ) where
     -- one round more: the order that it tries is kept exactly where its highest slot is strictly lower, and counted; else nothing changes
     pub run-step : (k : ℕ)
         → ((highestOf (tried n (runAfter k)) < runAfter k .highest) × (runAfter (suc k) .order ≡ tried n (runAfter k))
-            × (runAfter (suc k) .highest ≡ highestOf (tried n (runAfter k))) × (runAfter (suc k) .kept ≡ suc (runAfter k .kept)))
+        × (runAfter (suc k) .highest ≡ highestOf (tried n (runAfter k))) × (runAfter (suc k) .kept ≡ suc (runAfter k .kept)))
         ⊎ ((runAfter k .highest ≤ highestOf (tried n (runAfter k))) × (runAfter (suc k) .order ≡ runAfter k .order)
-            × (runAfter (suc k) .highest ≡ runAfter k .highest) × (runAfter (suc k) .kept ≡ runAfter k .kept))
+        × (runAfter (suc k) .highest ≡ runAfter k .highest) × (runAfter (suc k) .kept ≡ runAfter k .kept))
     unfolding improved rounds
     run-step k = go (decLt (highestOf (tried n (runAfter k))) (runAfter k .highest))
       where
         go : Dec (highestOf (tried n (runAfter k)) < runAfter k .highest)
             → ((highestOf (tried n (runAfter k)) < runAfter k .highest) × (runAfter (suc k) .order ≡ tried n (runAfter k))
-                × (runAfter (suc k) .highest ≡ highestOf (tried n (runAfter k))) × (runAfter (suc k) .kept ≡ suc (runAfter k .kept)))
+            × (runAfter (suc k) .highest ≡ highestOf (tried n (runAfter k))) × (runAfter (suc k) .kept ≡ suc (runAfter k .kept)))
             ⊎ ((runAfter k .highest ≤ highestOf (tried n (runAfter k))) × (runAfter (suc k) .order ≡ runAfter k .order)
-                × (runAfter (suc k) .highest ≡ runAfter k .highest) × (runAfter (suc k) .kept ≡ runAfter k .kept))
+            × (runAfter (suc k) .highest ≡ runAfter k .highest) × (runAfter (suc k) .kept ≡ runAfter k .kept))
         go (yes l) = let x = round-kept highestOf n (p .network .some) (runAfter k) l in inl (l, x .0, x .1, x .2)
         go (no l) = let x = round-left highestOf n (p .network .some) (runAfter k) (omega arith) in inr (omega arith, x .0, x .1, x .2)
 
