@@ -39,7 +39,7 @@ module _ (n : ℕ) (lent : Lent) (list : List ℕ) (zero-answer : flooring n len
   abbrev net : Net
   net = netOf lent
 
-  -- "its widths added plus (k-1) times the least guard among them, k being its length"
+  -- the widths added, and the least guard once for each path after the first
   pub flooring-is : flooring n lent list .floor ≡ sum (λ i. net .width (at list i)) (length list) + (length list - 1) * leastGuard net (at list) (length list)
   unfolding floor
   flooring-is = flooring-floor n lent list zero-answer

@@ -8,7 +8,7 @@ use mathlib.Core.List.{List, _++_}
 use native.Mathlib.Omega.{arith}
 use native.Mathlib.Decide.{decLt}
 use lib.ListN.{length, set, drop, length-set, length-append, length-drop}
-use lib.Seq.{getD-drop, getD-append-add}
+use lib.Seq.{ext-getD, getD-drop, getD-append-add}
 use lib.Dec.{eqb}
 use Rattle.rules.specs.declared.Fault.{Fault}
 use Rattle.rules.specs.declared.Packed.{Packed}
@@ -108,7 +108,11 @@ writing-refused n labels lent starts text z =
     let e = unless-is (λ (r : Left SheetWritten (List ℕ)). r .answer .number) (writeFault n labels lent starts text) _ _ refl z in
     (ap (λ (r : Left SheetWritten (List ℕ)). r .answer .length) e, ap (λ (r : Left SheetWritten (List ℕ)). r .tables) e)
 
--- The cells of index n or more: no cell is written, then one below n, then what is made of such steps
+-- The cells of index n or more. From cell 0 on kept, a table is the same
+pub kept-all : (before after : List ℕ) → KeptFrom 0 before after → after ≡ before
+kept-all before after h = ext-getD 0 after before (h .size) (λ k l. h .cells k (omega arith))
+
+-- no cell is written, then one below n, then what is made of such steps
 kept-none : (n : ℕ) (t : List ℕ) → KeptFrom n t t
 kept-none n t = record { size = refl; cells = λ k l. refl }
 
