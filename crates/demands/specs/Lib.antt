@@ -12,6 +12,7 @@ pub mod OnSiding
 pub mod OnPlanning
 pub mod OnPressing
 pub mod OnFlooring
+pub mod OnBetter
 -- no second answer, and programs that are unfit
 pub mod OneAnswer
 pub mod Witness
@@ -25,3 +26,9 @@ pub mod SheetTrip
 pub mod SameBytes
 pub mod Longest
 pub mod ReadBack
+-- demand 1: what a call refuses, and what a refusal leaves
+pub mod Tests
+pub mod Words
+pub mod OnRefusing
+pub mod OnAccepting
+pub mod OnLeaving

@@ -7,13 +7,9 @@ use lib.ListN.{length}
 use Rattle.rules.specs.Tables.{at}
 use Rattle.rules.specs.Plan.{Net, Valid, end, highest}
 use Rattle.plan_laws.specs.Good.{Good}
-use Rattle.rules.specs.Packing.{lowest, packed, Order}
+use Rattle.rules.specs.Packing.{lowest, packed, Order, Reversed}
 use Rattle.plan_laws.specs.Plans.{Keeps, packed-least, packed-valid, respects-keeps, respected}
 use Rattle.plan_laws.specs.Heights.{highest-ge, highest-le}
-
--- r is o backwards
-abbrev pub Reversed : (ℕ → ℕ) → (ℕ → ℕ) → ℕ → Type 0
-Reversed o r n = (i : ℕ) → i < n → r i ≡ o (n - 1 - i)
 
 reversed-sym : (o r : ℕ → ℕ) (n : ℕ) → Reversed o r n → Reversed r o n
 reversed-sym o r n h i l = let e : i ≡ n - 1 - (n - 1 - i) = omega arith in ap o e ∙ sym (h (n - 1 - i) (omega arith))

@@ -40,6 +40,11 @@ module _ (n : ℕ) (lent : Lent) (order starts : List ℕ) (seed k : ℕ) (zero-
   unfolding donePlanned
   improving-valid = rw improving-is (plan-valid n lent (last .order) starts (run-packable n lent order starts seed packable k))
 
+  -- its highest slot is its plan's, and that of the last round
+  pub improving-top : leftBehind .answer .highest ≡ highest (netOf lent) (at (leftBehind .tables .1)) n
+  unfolding donePlanned
+  improving-top = rw improving-is
+
   pub improving-highest : leftBehind .answer .highest ≡ last .highest
   unfolding donePlanned height
   improving-highest = rw improving-is (sym (run-sound n lent order starts seed packable k .0 .right))

@@ -1,21 +1,39 @@
 -- Demand 2: packing, as the call answers: for every n and all tables for which it answers 0. Assumes nothing.
-use Prim.Native.Nat.{ℕ, _≤_}
-use mathlib.Core.Path.{_≡_, _∙_}
+use Prim.Native.Nat.{ℕ, zero, suc, _≤_, _<_, max}
+use mathlib.Core.Path.{_≡_, refl, _∙_}
+use mathlib.Core.Logic.{_⊎_, inl, inr}
 use mathlib.Core.List.{List}
 use native.Mathlib.Omega.{arith}
+use native.Mathlib.Decide.{decLt}
 use lib.ListN.{length}
 use Rattle.rules.specs.Tables.{at, Lent}
 use Rattle.rules.specs.Limits.{Starts}
-use Rattle.rules.specs.Plan.{Net, netOf, highest, Valid}
-use Rattle.rules.specs.Packing.{lowest, packed}
+use Rattle.rules.specs.Plan.{Net, netOf, Conflict, Clear, highest, Valid}
+use Rattle.rules.specs.Packing.{past, reach, lowest, packed}
 use Rattle.rules.specs.Calls.{donePacked, packing}
 use Rattle.plan_laws.specs.Pack.{packed-length}
-use Rattle.plan_laws.specs.Lowest.{lowest-local}
-use Rattle.plan_laws.specs.Plans.{packed-valid}
+use Rattle.plan_laws.specs.Lowest.{lowest-local, reach-conflict, reach-free}
+use Rattle.plan_laws.specs.Plans.{respects-keeps, packs, respected, packed-valid}
 use Rattle.plan_laws.specs.Heights.{highest-ge}
 use Rattle.plan_laws.specs.Bound.{lowest-climbs, packed-bound}
 use Rattle.plan_laws.specs.Fits.{network-good, network-bounds}
 use Rattle.plan_laws.specs.Answers.{Packable, packing-packable, packable-packing}
+
+-- the lowest start is a path's lowest, or what a conflicting path asks
+lowest-reached : (net : Net) (p o : ℕ → ℕ) (m k : ℕ)
+    → (lowest net p o m k ≡ net .low k) ⊎ ((j : ℕ) × (j < m) × Conflict net (o j) k × (lowest net p o m k ≡ past net (o j) k (p (o j))))
+unfolding lowest
+lowest-reached net p o zero k = inl refl
+lowest-reached net p o (suc m) k = go (decLt (lowest net p o m k) (reach net (o m) k (p (o m)))) (decLt (net .guard (o m) k) 255) (lowest-reached net p o m k)
+  where
+    go : Dec (lowest net p o m k < reach net (o m) k (p (o m))) → Dec (Conflict net (o m) k)
+        → (lowest net p o m k ≡ net .low k) ⊎ ((j : ℕ) × (j < m) × Conflict net (o j) k × (lowest net p o m k ≡ past net (o j) k (p (o j))))
+        → (max (lowest net p o m k) (reach net (o m) k (p (o m))) ≡ net .low k)
+        ⊎ ((j : ℕ) × (j < suc m) × Conflict net (o j) k × (max (lowest net p o m k) (reach net (o m) k (p (o m))) ≡ past net (o j) k (p (o j))))
+    go (yes x) (yes c) h = inr (m, omega arith, c, omega (arith, reach-conflict net (o m) k (p (o m)) (past net (o m) k (p (o m))) c refl))
+    go (yes x) (no c) h = absurd (omega (arith, reach-free net (o m) k (p (o m)) (omega arith)))
+    go (no x) d (inl e) = inl (omega arith)
+    go (no x) d (inr (j, l, c, e)) = inr (j, omega arith, c, omega arith)
 
 -- What an order packs to is a valid plan, within the limits, and no higher than 12,256
 abbrev pub packedStarts : ℕ → Lent → List ℕ → List ℕ → List ℕ
@@ -72,3 +90,24 @@ module _ (n : ℕ) (lent : Lent) (order starts : List ℕ) (zero-answer : packin
   pub packing-highest : packing n lent order starts .answer .highest ≡ highest (netOf lent) (at (packing n lent order starts .tables)) n
   unfolding donePacked
   packing-highest = rw packing-is
+
+  -- the rule itself: each start is 1, or the first slot past a conflicting path earlier in the order and its guard, and it is below none of these
+  pub packing-clear : (i j : ℕ) → i < j → j < n → Conflict (netOf lent) (at order i) (at order j)
+      → Clear (netOf lent) (at (packing n lent order starts .tables)) (at order i) (at order j)
+  unfolding donePacked
+  packing-clear i j h l c =
+      rw packing-is
+      (omega (
+        arith,
+        respects-keeps (netOf lent) n (at order) (packable .whole) (at (packedStarts n lent order starts))
+            (respected (netOf lent) n (at order) (packable .whole) starts (room n lent order starts packable)) i j h l c,
+      ))
+
+  pub packing-lowest : (i : ℕ) → i < n
+      → (at (packing n lent order starts .tables) (at order i) ≡ 1)
+      ⊎ ((j : ℕ) × (j < i) × Conflict (netOf lent) (at order j) (at order i)
+      × (at (packing n lent order starts .tables) (at order i) ≡ past (netOf lent) (at order j) (at order i) (at (packing n lent order starts .tables) (at order j))))
+  unfolding donePacked
+  packing-lowest i l = rw packing-is
+      (rw (packs (netOf lent) n (at order) (packable .whole) starts (room n lent order starts packable) (lowest (netOf lent)) (lowest-local (netOf lent)) i l)
+      (lowest-reached (netOf lent) (at (packedStarts n lent order starts)) (at order) i (at order i)))

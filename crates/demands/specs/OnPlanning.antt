@@ -1,7 +1,7 @@
 -- Demand 2: planning, as the call answers. Assumes nothing.
 use Prim.Native.Nat.{ℕ, _≤_}
 use mathlib.Core.Path.{_≡_, refl, sym, ap, _∙_}
-use mathlib.Core.Bool.{Bool, true, false}
+use mathlib.Core.Bool.{Bool, true, false, cond}
 use mathlib.Core.List.{List}
 use native.Mathlib.Omega.{arith}
 use lib.ListN.{length}
@@ -11,15 +11,15 @@ use Rattle.rules.specs.Plan.{Net, netOf, highest, Valid}
 use Rattle.rules.specs.Packing.{Once, lowest}
 use Rattle.rules.specs.Sides.{Split, isHigh, hasSides, twoSided, twoSidedHighest}
 use Rattle.rules.specs.Planning.{startNext, greedy}
-use Rattle.rules.specs.Calls.{Left, donePlanned, improving, donePlan, planning}
+use Rattle.rules.specs.Calls.{Left, donePacked, packing, donePlanned, doneImproved, improving, donePlan, planning}
 use Rattle.plan_laws.specs.Arranged.{arranged-order, arranged-length}
 use Rattle.demands.specs.TwoSided.{figure-holds, two-sided}
 use Rattle.demands.specs.Finding.{found-sides, found-all}
 use Rattle.plan_laws.specs.Fits.{network-good}
 use Rattle.table_laws.specs.Limits.{order-once}
-use Rattle.plan_laws.specs.Answers.{Packable, packable-improving, Plannable, planning-plannable, plannable-planning}
+use Rattle.plan_laws.specs.Answers.{Packable, packable-packing, packable-improving, Plannable, planning-plannable, plannable-planning}
 use Rattle.demands.specs.OnPacking.{plan-valid}
-use Rattle.demands.specs.OnImproving.{improving-valid, improving-order}
+use Rattle.demands.specs.OnImproving.{improving-packs, improving-valid, improving-order}
 use Rattle.plan_laws.specs.Sided.{sided-length, sided-order}
 
 module _ (n : ℕ) (lent : Lent) (order starts : List ℕ) (seed rounds : ℕ) (zero-answer : planning n lent order starts seed rounds .answer .number ≡ 0) where
@@ -36,7 +36,7 @@ module _ (n : ℕ) (lent : Lent) (order starts : List ℕ) (seed rounds : ℕ) (
   room = omega (arith, plannable .orderSize, plannable .network .few)
 
   -- where there are two sides: the two-sided order, packed, with none kept
-  sided : Packable n lent (twoSided n (isHigh net n) order) starts
+  pub sided : Packable n lent (twoSided n (isHigh net n) order) starts
   sided = record {
     network = plannable .network;
     orderSize = sided-length n (isHigh net n) order room ∙ plannable .orderSize;
@@ -69,7 +69,7 @@ module _ (n : ℕ) (lent : Lent) (order starts : List ℕ) (seed rounds : ℕ) (
     planning-none-kept = rw sided-is
 
   -- where there are none: what improving the greedy order leaves
-  greedyPackable : Packable n lent (greedy (lowest net) n starts order n) starts
+  pub greedyPackable : Packable n lent (greedy (lowest net) n starts order n) starts
   greedyPackable = record {
     network = plannable .network;
     orderSize = arranged-length (startNext (lowest net) starts) n order room n ∙ plannable .orderSize;
@@ -90,7 +90,32 @@ module _ (n : ℕ) (lent : Lent) (order starts : List ℕ) (seed rounds : ℕ) (
       lacks false e = e
       lacks true e = absurd (h (isHigh net n) (found-sides net n (plannable .network .few) (network-good n lent (plannable .network)) e .split))
 
-  -- either way the plan is valid, and the order an order
+  -- either way what it leaves is the packing of the order that it leaves, and its highest slot is that plan's
+  pub planning-packs : packing n lent (leftBehind .tables .0) starts ≡ donePacked net n (leftBehind .tables .1)
+  planning-packs = go (hasSides net n) refl
+    where
+      go : (b : Bool) → hasSides net n ≡ b → packing n lent (leftBehind .tables .0) starts ≡ donePacked net n (leftBehind .tables .1)
+      go true e = unfold donePlanned in
+          (rw (sided-is (isHigh net n) (found-sides net n (plannable .network .few) (network-good n lent (plannable .network)) e .split))
+          (packable-packing n lent (twoSided n (isHigh net n) order) starts sided))
+      go false e =
+          rw (improved-is e)
+          (improving-packs n lent (greedy (lowest net) n starts order n) starts seed rounds
+          (sym (ap (λ (r : Left Planned (List ℕ × List ℕ)). r .answer .number) (improved-is e)) ∙ zero-answer))
+
+  pub planning-highest : leftBehind .answer .highest ≡ highest net (at (leftBehind .tables .1)) n
+  unfolding donePlan donePlanned doneImproved
+  planning-highest =
+      rw (plannable-planning n lent order starts seed rounds plannable)
+      (either (hasSides net n) (donePlanned net n (twoSided n (isHigh net n) order) starts 0)
+      (doneImproved net n (greedy (lowest net) n starts order n) starts seed rounds) refl refl)
+    where
+      either : (b : Bool) (x y : Left Planned (List ℕ × List ℕ)) → x .answer .highest ≡ highest net (at (x .tables .1)) n
+          → y .answer .highest ≡ highest net (at (y .tables .1)) n → cond b x y .answer .highest ≡ highest net (at (cond b x y .tables .1)) n
+      either true x y g h = g
+      either false x y g h = h
+
+  -- the plan is valid, and the order an order
   pub planning-valid : Valid net n (at (leftBehind .tables .1))
   planning-valid = go (hasSides net n) refl
     where

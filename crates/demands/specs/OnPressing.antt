@@ -1,20 +1,21 @@
 -- Demand 3, over demand 2's valid plans and packing, as the calls answer. Assumes nothing.
 use Prim.Native.Nat.{ℕ, _-_, _≤_, _<_}
-use mathlib.Core.Path.{_≡_, refl, _∙_}
+use mathlib.Core.Path.{_≡_, refl, sym, _∙_}
 use mathlib.Core.List.{List}
 use native.Mathlib.Omega.{arith}
 use lib.ListN.{length}
 use Rattle.rules.specs.declared.Packed.{Packed}
 use Rattle.rules.specs.Tables.{at, Lent}
 use Rattle.rules.specs.Plan.{Net, netOf, highest, Valid}
+use Rattle.rules.specs.Packing.{Reversed}
 use Rattle.rules.specs.Pressing.{pressed, SameSides}
 use Rattle.rules.specs.Calls.{Left, donePacked, packing, pressing}
 use Rattle.plan_laws.specs.Good.{Good}
 use Rattle.demands.specs.Press.{press-valid, press-sides, press-least, press-length, press-agree, press-again}
-use Rattle.demands.specs.Mirror.{Reversed, reverse-law}
+use Rattle.demands.specs.Mirror.{reverse-law}
 use Rattle.plan_laws.specs.Heights.{highest-ge, highest-le, highest-same}
 use Rattle.plan_laws.specs.Fits.{network-good}
-use Rattle.plan_laws.specs.Answers.{Judgeable, pressing-judgeable, judgeable-pressing, packing-packable, packable-packing}
+use Rattle.plan_laws.specs.Answers.{Judgeable, pressing-judgeable, judgeable-pressing, Packable, packing-packable, packable-packing}
 
 -- Pressing gives the least plan of the same sides, once and for all
 module _ (n : ℕ) (lent : Lent) (starts : List ℕ) (zero-answer : pressing n lent starts .answer .number ≡ 0) where
@@ -110,14 +111,29 @@ pressing-same n lent starts others y z s = (agree, tops)
         rw (pressing-highest n lent starts y, pressing-highest n lent others z)
         (highest-same (netOf lent) (at (pressing n lent starts .tables)) (at (pressing n lent others .tables)) n agree)
 
--- For every order, packing it and packing its reverse reach the same highest slot
-pub packing-reverse : (n : ℕ) (lent : Lent) (order reverse starts others : List ℕ)
-    → packing n lent order starts .answer .number ≡ 0 → packing n lent reverse others .answer .number ≡ 0 → Reversed (at order) (at reverse) n
-    → packing n lent order starts .answer .highest ≡ packing n lent reverse others .answer .highest
-unfolding donePacked
-packing-reverse n lent order reverse starts others y z rev =
-    let p = packing-packable n lent order starts y in
-    let q = packing-packable n lent reverse others z in
-    rw (packable-packing n lent order starts p, packable-packing n lent reverse others q)
-    (reverse-law (netOf lent) n (network-good n lent (p .network)) (λ k l. refl) (at order) (at reverse) (p .whole) (q .whole) rev starts others
-    (omega (arith, p .startsSize, p .network .few)) (omega (arith, q .startsSize, q .network .few)))
+-- The reverse of an order that is packed is packed too, to the same highest slot
+module _ (n : ℕ) (lent : Lent) (order reverse starts others : List ℕ) (zero-answer : packing n lent order starts .answer .number ≡ 0)
+    (size : length reverse ≡ 128) (room : length others ≡ 128) (rev : Reversed (at order) (at reverse) n) where
+  packable : Packable n lent order starts
+  packable = packing-packable n lent order starts zero-answer
+
+  reverse-packable : Packable n lent reverse others
+  reverse-packable = record {
+    network = packable .network;
+    orderSize = size;
+    startsSize = room;
+    whole = record {
+      inside = λ i l. omega (arith, rev i l, packable .whole .inside (n - 1 - i) (omega arith));
+      fresh = λ i j h l e. packable .whole .fresh (n - 1 - j) (n - 1 - i) (omega arith) (omega arith) (sym (rev j l) ∙ sym e ∙ rev i (omega arith));
+    };
+  }
+
+  pub packing-reverse : (packing n lent reverse others .answer .number ≡ 0)
+      × (packing n lent order starts .answer .highest ≡ packing n lent reverse others .answer .highest)
+  unfolding donePacked
+  packing-reverse =
+      rw (packable-packing n lent order starts packable, packable-packing n lent reverse others reverse-packable) (
+        refl,
+        reverse-law (netOf lent) n (network-good n lent (packable .network)) (λ k l. refl) (at order) (at reverse) (packable .whole)
+            (reverse-packable .whole) rev starts others (omega (arith, packable .startsSize, packable .network .few)) (omega (arith, packable .network .few)),
+      )

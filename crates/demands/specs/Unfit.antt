@@ -6,7 +6,9 @@ use mathlib.Core.Logic.{_≢_}
 use mathlib.Core.Bool.{cond}
 use mathlib.Core.List.{List, [], _∷_}
 use native.Mathlib.Omega.{arith}
+use lib.ListN.{length}
 use lib.Dec.{ltb}
+use denote.Ref.{RefT, now}
 use Rattle.rules.specs.declared.Fault.{Fault}
 use Rattle.rules.specs.declared.Packed.{Packed}
 use Rattle.rules.specs.declared.Sided.{Sided}
@@ -17,7 +19,7 @@ use Rattle.rules.specs.declared.SheetWritten.{SheetWritten}
 use Rattle.rules.specs.Tables.{at, cleared, Lent, clearedNetwork}
 use Rattle.rules.specs.Limits.{Network}
 use Rattle.rules.specs.Scan.{sum}
-use Rattle.rules.specs.Better.{comparing}
+use Rattle.rules.specs.Better.{Bettered}
 use Rattle.rules.specs.Calls.{Left, judging, packing, pressing, siding, improving, planning, flooring, reading, writing}
 use Rattle.rules.specs.Figures.{netT, three}
 use Rattle.demands.specs.Witness.{netTwo, netOne, onePath, labelA, answers, betterT, differs}
@@ -105,47 +107,81 @@ read-refusing program = refusing-unfit (λ r. r .answer .number) readingOf progr
 pub write-refusing : (program : ℕ × Table × Lent × Table × Table → Left SheetWritten Table) → Meets program writingOf → Refuses (λ r. r .answer .number) program → ⊥
 write-refusing program = refusing-unfit (λ r. r .answer .number) writingOf program (1, labelA, netOne, three 0 0 0, cleared 100 0) (entry 8 answers)
 
--- the better of two refuses everything by handing back empty parts: it does not for these two orders of T
-pub better-refusing : ((n : ℕ) (lent : Lent) (first second : Table) → comparing n lent first second ≡ 0) → ⊥
-better-refusing h = omega (arith, h 3 netT (three 0 1 2) (three 1 0 2), betterT)
+-- the better of two refuses everything by handing back nothing: a program that meets it hands back three entries for these two orders of T
+abbrev Reference : Type 0
+Reference = RefT Table
 
--- (2) A packing with one constant answer: one highest slot for all, or one table of starts for all
-pub constant-highest-unfit : (program : ℕ × Lent × Table × Table → Left Packed Table) → Meets program packingOf
-    → (constant : ℕ) → ((g : ℕ × Lent × Table × Table) → program g .answer .highest ≡ constant) → ⊥
-constant-highest-unfit program meets constant same =
-    omega (arith, high (three 0 1 2), high (three 1 0 2), entry 0 differs, entry 1 differs)
-  where
-    high : (order : Table) → packing 3 netT order (three 0 0 0) .answer .highest ≡ constant
-    high order = sym (ap (λ (r : Left Packed Table). r .answer .highest) (meets (3, netT, order, three 0 0 0))) ∙ same (3, netT, order, three 0 0 0)
+reference : Table → Reference
+reference order = record { ptr = (0, 0); name = 0; now = order }
 
-pub constant-starts-unfit : (program : ℕ × Lent × Table × Table → Left Packed Table) → Meets program packingOf
-    → (constant : Table) → ((g : ℕ × Lent × Table × Table) → program g .tables ≡ constant) → ⊥
-constant-starts-unfit program meets constant same =
-    omega (arith, ap (λ (t : Table). at t 0) (start (three 0 1 2) ∙ sym (start (three 1 0 2))), entry 2 differs, entry 3 differs)
-  where
-    start : (order : Table) → packing 3 netT order (three 0 0 0) .tables ≡ constant
-    start order = sym (ap (λ (r : Left Packed Table). r .tables) (meets (3, netT, order, three 0 0 0))) ∙ same (3, netT, order, three 0 0 0)
+pub better-refusing : (program : ℕ → Lent → Reference → Reference → Reference)
+    → ((n : ℕ) (lent : Lent) (first second : Reference) → Bettered n lent first second (program n lent first second))
+    → ((n : ℕ) (lent : Lent) (first second : Reference) → now (program n lent first second) ≡ []) → ⊥
+unfolding Bettered reference three
+better-refusing program meets nothing =
+    let one = reference (three 0 1 2) in
+    let two = reference (three 1 0 2) in
+    let part = rw betterT at (meets 3 netT one two) in
+    omega (arith, ap length (sym (nothing 3 netT one two) ∙ part .cells))
 
--- (3) A pressing that hands its plan back untouched
+-- (2) A packing with one constant answer wherever it answers: one highest slot for all, or one table of starts for all
+module _ (program : ℕ × Lent × Table × Table → Left Packed Table) (meets : Meets program packingOf) where
+  abbrev givenOrder : Table → ℕ × Lent × Table × Table
+  givenOrder order = (3, netT, order, three 0 0 0)
+
+  packs : (order : Table) → packing 3 netT order (three 0 0 0) .answer .number ≡ 0 → program (givenOrder order) .answer .number ≡ 0
+  packs order z = ap (λ (r : Left Packed Table). r .answer .number) (meets (givenOrder order)) ∙ z
+
+  pub constant-highest-unfit : (constant : ℕ) → ((g : ℕ × Lent × Table × Table) → program g .answer .number ≡ 0 → program g .answer .highest ≡ constant) → ⊥
+  constant-highest-unfit constant same =
+      omega (arith, high (three 0 1 2) (entry 1 answers), high (three 1 0 2) (entry 11 answers), entry 0 differs, entry 1 differs)
+    where
+      high : (order : Table) → packing 3 netT order (three 0 0 0) .answer .number ≡ 0 → packing 3 netT order (three 0 0 0) .answer .highest ≡ constant
+      high order z = sym (ap (λ (r : Left Packed Table). r .answer .highest) (meets (givenOrder order))) ∙ same (givenOrder order) (packs order z)
+
+  pub constant-starts-unfit : (constant : Table) → ((g : ℕ × Lent × Table × Table) → program g .answer .number ≡ 0 → program g .tables ≡ constant) → ⊥
+  constant-starts-unfit constant same =
+      omega (arith, ap (λ (t : Table). at t 0) (start (three 0 1 2) (entry 1 answers) ∙ sym (start (three 1 0 2) (entry 11 answers))), entry 2 differs, entry 3 differs)
+    where
+      start : (order : Table) → packing 3 netT order (three 0 0 0) .answer .number ≡ 0 → packing 3 netT order (three 0 0 0) .tables ≡ constant
+      start order z = sym (ap (λ (r : Left Packed Table). r .tables) (meets (givenOrder order))) ∙ same (givenOrder order) (packs order z)
+
+-- (3) A pressing that hands its plan back untouched wherever it answers
 pub untouched-unfit : (program : ℕ × Lent × Table → Left Packed Table) → Meets program pressingOf
-    → ((n : ℕ) (lent : Lent) (starts : Table) → program (n, lent, starts) .tables ≡ starts) → ⊥
+    → ((n : ℕ) (lent : Lent) (starts : Table) → program (n, lent, starts) .answer .number ≡ 0 → program (n, lent, starts) .tables ≡ starts) → ⊥
 untouched-unfit program meets untouched =
     omega (arith, ap (λ (t : Table). at t 0) back, entry 4 differs, first-start)
   where
+    pressed : program (3, netT, three 20 10 30) ≡ pressing 3 netT (three 20 10 30)
+    pressed = meets (3, netT, three 20 10 30)
+
     back : pressing 3 netT (three 20 10 30) .tables ≡ three 20 10 30
-    back = sym (ap (λ (r : Left Packed Table). r .tables) (meets (3, netT, three 20 10 30))) ∙ untouched 3 netT (three 20 10 30)
+    back =
+        sym (ap (λ (r : Left Packed Table). r .tables) pressed)
+        ∙ untouched 3 netT (three 20 10 30) (ap (λ (r : Left Packed Table). r .answer .number) pressed ∙ entry 2 answers)
 
     first-start : at (three 20 10 30) 0 ≡ 20
     first-start = unfold three in refl
 
--- (4) An improver that works in round one and idles after: more rounds leave what one round left
+-- (4) An improver that works in round one and idles after, and refuses 10,001 rounds rightly: wherever it answers, more rounds leave what one
+-- round left
 pub idle-unfit : (program : ℕ × Lent × Table × Table × ℕ × ℕ → Left Planned (Table × Table)) → Meets program improvingOf
-    → ((n : ℕ) (lent : Lent) (order starts : Table) (seed more : ℕ) → program (n, lent, order, starts, seed, suc more) ≡ program (n, lent, order, starts, seed, 1)) → ⊥
+    → ((n : ℕ) (lent : Lent) (order starts : Table) (seed more : ℕ) → program (n, lent, order, starts, seed, suc more) .answer .number ≡ 0
+    → program (n, lent, order, starts, seed, suc more) ≡ program (n, lent, order, starts, seed, 1))
+    → ⊥
 idle-unfit program meets idles =
-    omega (arith, ap (λ (r : Left Planned (Table × Table)). r .answer .highest) (sym (meets (given 2)) ∙ idles 3 netT (three 2 1 0) (three 0 0 0) 1 1 ∙ meets (given 1)), entry 5 differs, entry 6 differs)
+    omega (
+      arith,
+      ap (λ (r : Left Planned (Table × Table)). r .answer .highest) (sym (meets (given 2)) ∙ idles 3 netT (three 2 1 0) (three 0 0 0) 1 1 done ∙ meets (given 1)),
+      entry 5 differs,
+      entry 6 differs,
+    )
   where
     given : ℕ → ℕ × Lent × Table × Table × ℕ × ℕ
     given rounds = (3, netT, three 2 1 0, three 0 0 0, 1, rounds)
+
+    done : program (given 2) .answer .number ≡ 0
+    done = ap (λ (r : Left Planned (Table × Table)). r .answer .number) (meets (given 2)) ∙ entry 12 answers
 
 -- (5) An invented number of kept swaps: it has to be the number of those rounds after which the program's own highest slot is lower than before
 pub invented-unfit : (program : ℕ × Lent × Table × Table × ℕ × ℕ → Left Planned (Table × Table)) → Meets program improvingOf

@@ -33,7 +33,7 @@ onePath = bytes "paths 1\nA 1\nguards 0\n"
 unfoldable pub labelA : List ℕ
 labelA = 65 ∷ replicate 1023 0
 
--- each call answers 0 for something, and the better of two hands a part back
+-- each call answers 0 for something, and the better of two hands a part of the second back
 pub answers :
     (judging 3 netT (three 1 4 10) .number
     ∷ packing 3 netT (three 0 1 2) (three 0 0 0) .answer .number
@@ -46,8 +46,10 @@ pub answers :
     ∷ writing 1 labelA netOne (three 0 0 0) (cleared 100 0) .answer .number
     ∷ networkSizes netT .number
     ∷ networkFault 3 netT .number
+    ∷ packing 3 netT (three 1 0 2) (three 0 0 0) .answer .number
+    ∷ improving 3 netT (three 2 1 0) (three 0 0 0) 1 2 .answer .number
     ∷ [])
-    ≡ 0 ∷ 0 ∷ 0 ∷ 0 ∷ 0 ∷ 0 ∷ 0 ∷ 0 ∷ 0 ∷ 0 ∷ 0 ∷ []
+    ≡ 0 ∷ 0 ∷ 0 ∷ 0 ∷ 0 ∷ 0 ∷ 0 ∷ 0 ∷ 0 ∷ 0 ∷ 0 ∷ 0 ∷ 0 ∷ []
 unfolding netTwo netOne onePath labelA withGuard widthsT guardsT netT three cleared first found firstRow foundPair largest least sum highest tooClose placed reach lowest packed height picked choose arranged pressed touches opposite marks isHigh sameMark hasSides twoSided lowSide draw drawnPlace swapped stateAfter tried round rounds improved leastGuard floor refuseIf _orElse_ scan square countFault sizeFault orderFault startFault clashFault sidesFault roundsFault listFault networkFault networkSizes lentFault planSizes judgeFault packFault twoSidesFault planFault improveFault floorFault unless judging refusedPacked donePacked packing pressing siding refusedPlanned donePlanned doneImproved improving flooring then word isDigit isLabelByte run label isPlain valueFrom number spell numeral isRow find bytesFrom putRow follow lines lastField countLine pathLine guardLine pathMeans pathStep guardCell guardMeans guardStep startMeans startStep counted after ended startsPart guardsPart sheetFrom labelOf badLabel labelTwice isPair pairs hasPlan joinFrom countText pathText guardText pathsText guardsText startsText sheetText labelSizes sheetSizes writeFault donePlan planning readOutcome reading writing refusalText plannedText printed comparing packedAnswer
 answers = refl
 

@@ -16,6 +16,7 @@ pub mod Sheet
 pub mod Writing
 -- Numbers returned
 pub mod Numbers
+pub mod Refusing
 -- The calls: all that each one leaves behind
 pub mod Calls
 pub mod Better

@@ -1,5 +1,5 @@
 -- Document 01, "Packing an order". An order is the function from a position to the path that stands there. Assumes nothing.
-use Prim.Native.Nat.{ℕ, zero, suc, _+_, _≤_, _<_, max}
+use Prim.Native.Nat.{ℕ, zero, suc, _+_, _-_, _≤_, _<_, max}
 use mathlib.Core.Path.{_≡_}
 use mathlib.Core.Logic.{_≢_}
 use mathlib.Core.Bool.{Bool, cond}
@@ -23,6 +23,10 @@ pub record Order (order : ℕ → ℕ) (n m : ℕ) : Type 0 where
 pub record Once (order : ℕ → ℕ) (n : ℕ) : Type 0 where
   pub holds : (k : ℕ) → k < n → (i : ℕ) × (i < n) × (order i ≡ k)
   pub once : (i j : ℕ) → i < n → j < n → order i < n → order i ≡ order j → i ≡ j
+
+-- an order backwards
+abbrev pub Reversed : (ℕ → ℕ) → (ℕ → ℕ) → ℕ → Type 0
+Reversed order reverse n = (i : ℕ) → i < n → reverse i ≡ order (n - 1 - i)
 
 -- a rule of packing: the start of path k, when the first m of an order stand as in a plan
 abbrev pub Rule : Type 0

@@ -1,0 +1,193 @@
+-- Demand 1: which number and which place each call answers. What its tests give in their order, in document 01's words, is its number and place;
+-- and tests give one answer alone (`gives-one`). Assumes nothing.
+use Prim.Native.Nat.{ℕ, _≤_, _<_}
+use mathlib.Core.Path.{_≡_, refl, sym, _∙_}
+use mathlib.Core.Bool.{Bool, true, false, cond, not, _&&_, true≢false}
+use mathlib.Core.List.{List, [], _∷_, _++_}
+use native.Mathlib.Omega.{arith}
+use lib.ListN.{length}
+use lib.Dec.{ltb, eqb}
+use borrow.Author.Tests.{not-true, not-false}
+use Rattle.rules.specs.declared.Fault.{Fault}
+use Rattle.rules.specs.declared.Packed.{Packed}
+use Rattle.rules.specs.declared.Sided.{Sided}
+use Rattle.rules.specs.declared.Planned.{Planned}
+use Rattle.rules.specs.declared.Floored.{Floored}
+use Rattle.rules.specs.declared.SheetWritten.{SheetWritten}
+use Rattle.rules.specs.Tables.{at, Lent}
+use Rattle.rules.specs.Limits.{Network}
+use Rattle.rules.specs.Plan.{netOf, tooClose}
+use Rattle.rules.specs.Sides.{Split, isHigh, hasSides}
+use Rattle.rules.specs.Writing.{badLabel, labelTwice, pairs, hasPlan, sheetText}
+use Rattle.rules.specs.Numbers.{fault, noFault, refuseIf, _orElse_, scan, square, outside, countFault, sizeFault, badWidth, badGuard, badMirror, badEntry, orderFault, badStart, startFault, clashFault, sidesFault, roundsFault, badMember, listFault, networkFault, networkSizes, lentFault, planSizes, judgeFault, packFault, twoSidesFault, planFault, improveFault, floorFault, labelSizes, writeFault}
+use Rattle.rules.specs.Calls.{Left, judging, refusedPacked, donePacked, packing, pressing, siding, refusedPlanned, donePlanned, doneImproved, improving, donePlan, planning, flooring, writing}
+use Rattle.rules.specs.Refusing.{Test, Gives, sizeTest, countTest, widthTest, guardTest, mirrorTest, entryTest, startTest, clashTest, sidesTest, roundsTest, lengthTest, memberTest, labelTest, labelTwiceTest, pairsTest, writtenStartTest, roomTest, networkTests, lentTests, judgeTests, packTests, improveTests, planTests, twoSidesTests, floorTests, writeTests}
+use Rattle.table_laws.specs.Faults.{scan-clear}
+use Rattle.table_laws.specs.Chains.{count-clear, lent-clear}
+use Rattle.plan_laws.specs.Fits.{network-good}
+use Rattle.demands.specs.Finding.{found-sides, found-all}
+use Rattle.demands.specs.Tests.{Tells, refuse-gives, scan-gives, square-gives, gives-done, gives-append, unless-gives}
+use Rattle.demands.specs.Words.{tells-lt, tells-eq, tells-not, tells-outside, tells-guard, tells-mirror, tells-entry, tells-clash, tells-member, tells-start, tells-label, tells-twice}
+
+-- a test, and those after it
+then : (t : Test) (ts : List Test) (f g : Fault) → Gives (t ∷ []) f → (f .number ≡ 0 → Gives ts g) → Gives (t ∷ ts) (f orElse g)
+then t ts f g = gives-append (t ∷ []) ts f g
+
+-- 2
+size-gives : (table : List ℕ) (size : ℕ) → Gives (sizeTest table size ∷ []) (sizeFault table size)
+unfolding sizeFault
+size-gives table size = refuse-gives 2 _ (not (eqb (length table) size)) (omega arith) (tells-not (tells-eq (length table) size))
+
+two-sizes : (a b : List ℕ) (x y : ℕ) → Gives (sizeTest a x ∷ sizeTest b y ∷ []) (sizeFault a x orElse sizeFault b y)
+two-sizes a b x y = then (sizeTest a x) (sizeTest b y ∷ []) (sizeFault a x) (sizeFault b y) (size-gives a x) (λ z. size-gives b y)
+
+-- 1, 3, 4, 5
+network-gives : (n : ℕ) (lent : Lent) → Gives (networkTests n lent) (networkFault n lent)
+unfolding networkTests networkFault countFault
+network-gives n lent =
+    then (countTest n) _ (countFault n) _ (refuse-gives 1 _ (outside 1 128 n) (omega arith) (tells-outside 1 128 n)) (λ z.
+    then (widthTest n (lent .widths)) _ (scan 3 (badWidth (lent .widths)) n) _
+    (scan-gives 3 n _ (badWidth (lent .widths)) (omega arith) (λ k l. tells-outside 1 64 (at (lent .widths) k))) (λ _.
+    then (guardTest n (lent .guards)) _ (square 4 (badGuard (lent .guards)) n) _
+    (square-gives 4 n _ (badGuard (lent .guards)) (omega arith) (count-clear n z .1) (λ i j l g. tells-guard (lent .guards) i j)) (λ _.
+    square-gives 5 n _ (badMirror (lent .guards)) (omega arith) (count-clear n z .1) (λ i j l g. tells-mirror (lent .guards) i j))))
+
+-- 2, 1, 3, 4, 5, with 2 of the tables beside the network
+lent-gives : (n : ℕ) (lent : Lent) (ts : List Test) (sizes : Fault) → Gives ts sizes → Gives (lentTests n lent ts) (lentFault n lent sizes)
+unfolding lentTests lentFault networkSizes
+lent-gives n lent ts sizes h =
+    gives-append (sizeTest (lent .widths) 128 ∷ sizeTest (lent .guards) 16384 ∷ []) (ts ++ networkTests n lent) _ _
+    (two-sizes (lent .widths) (lent .guards) 128 16384)
+    (λ z. gives-append ts (networkTests n lent) sizes (networkFault n lent) h (λ y. network-gives n lent))
+
+plan-sizes-give : (order starts : List ℕ) → Gives (sizeTest order 128 ∷ sizeTest starts 128 ∷ []) (planSizes order starts)
+unfolding planSizes
+plan-sizes-give order starts = two-sizes order starts 128 128
+
+rounds-give : (rounds : ℕ) → Gives (roundsTest rounds ∷ []) (roundsFault rounds)
+unfolding roundsFault
+rounds-give rounds = refuse-gives 10 _ (ltb 10000 rounds) (omega arith) (tells-lt 10000 rounds)
+
+-- judging and pressing
+module _ (n : ℕ) (lent : Lent) (starts : List ℕ) where
+  judge-gives : Gives (judgeTests n lent starts) (judgeFault n lent starts)
+  unfolding judgeTests judgeFault startFault clashFault
+  judge-gives =
+      gives-append (lentTests n lent (sizeTest starts 128 ∷ [])) _ (lentFault n lent (sizeFault starts 128)) _
+      (lent-gives n lent _ (sizeFault starts 128) (size-gives starts 128)) (λ z.
+      then (startTest n starts) _ (scan 7 (badStart starts) n) _ (scan-gives 7 n _ (badStart starts) (omega arith) (λ k l. tells-outside 1 16384 (at starts k))) (λ _.
+      square-gives 8 n _ (tooClose (netOf lent) (at starts)) (omega arith) (lent-clear n lent (sizeFault starts 128) z .0 .few)
+      (λ i j l g. tells-clash (netOf lent) (at starts) i j)))
+
+  pub judging-gives : Gives (judgeTests n lent starts) (judging n lent starts)
+  unfolding judging
+  judging-gives = judge-gives
+
+  pub pressing-gives : Gives (judgeTests n lent starts) (fault (pressing n lent starts .answer .number) (pressing n lent starts .answer .place))
+  unfolding pressing refusedPacked donePacked
+  pressing-gives =
+      unless-gives (λ (r : Left Packed (List ℕ)). r .answer .number) (λ (r : Left Packed (List ℕ)). r .answer .place)
+      (judgeTests n lent starts) (judgeFault n lent starts) (refusedPacked starts) _ refl refl refl refl judge-gives
+
+-- packing, improving and planning
+module _ (n : ℕ) (lent : Lent) (order starts : List ℕ) where
+  sized-gives : Gives (lentTests n lent (sizeTest order 128 ∷ sizeTest starts 128 ∷ [])) (lentFault n lent (planSizes order starts))
+  sized-gives = lent-gives n lent _ (planSizes order starts) (plan-sizes-give order starts)
+
+  pack-gives : Gives (packTests n lent order starts) (packFault n lent order starts)
+  unfolding packTests packFault orderFault
+  pack-gives =
+      gives-append (lentTests n lent (sizeTest order 128 ∷ sizeTest starts 128 ∷ [])) _ (lentFault n lent (planSizes order starts)) _ sized-gives
+      (λ z. scan-gives 6 n _ (badEntry n order) (omega arith) (λ k l. tells-entry n order k))
+
+  pub packing-gives : Gives (packTests n lent order starts) (fault (packing n lent order starts .answer .number) (packing n lent order starts .answer .place))
+  unfolding packing refusedPacked donePacked
+  packing-gives =
+      unless-gives (λ (r : Left Packed (List ℕ)). r .answer .number) (λ (r : Left Packed (List ℕ)). r .answer .place)
+      (packTests n lent order starts) (packFault n lent order starts) (refusedPacked starts) _ refl refl refl refl pack-gives
+
+  module _ (seed rounds : ℕ) where
+    abbrev improve : Left Planned (List ℕ × List ℕ)
+    improve = improving n lent order starts seed rounds
+
+    pub improving-gives : Gives (improveTests n lent order starts rounds) (fault (improve .answer .number) (improve .answer .place))
+    unfolding improveTests improving improveFault refusedPlanned doneImproved donePlanned
+    improving-gives =
+        unless-gives (λ (r : Left Planned (List ℕ × List ℕ)). r .answer .number) (λ (r : Left Planned (List ℕ × List ℕ)). r .answer .place)
+        (packTests n lent order starts ++ (roundsTest rounds ∷ [])) (packFault n lent order starts orElse roundsFault rounds) (refusedPlanned order starts) _ refl refl refl refl
+        (gives-append (packTests n lent order starts) _ (packFault n lent order starts) _ pack-gives (λ z. rounds-give rounds))
+
+    abbrev plan : Left Planned (List ℕ × List ℕ)
+    plan = planning n lent order starts seed rounds
+
+    pub planning-gives : Gives (planTests n lent order starts rounds) (fault (plan .answer .number) (plan .answer .place))
+    unfolding planTests planning planFault refusedPlanned
+    planning-gives =
+        unless-gives (λ (r : Left Planned (List ℕ × List ℕ)). r .answer .number) (λ (r : Left Planned (List ℕ × List ℕ)). r .answer .place)
+        (planTests n lent order starts rounds) (planFault n lent order starts rounds) (refusedPlanned order starts) _ refl refl
+        (done .0) (done .1)
+        (gives-append (lentTests n lent (sizeTest order 128 ∷ sizeTest starts 128 ∷ [])) _ (lentFault n lent (planSizes order starts)) _ sized-gives (λ z. rounds-give rounds))
+      where
+        either : (b : Bool) (x y : Left Planned (List ℕ × List ℕ)) → (x .answer .number ≡ 0) × (x .answer .place ≡ 0) → (y .answer .number ≡ 0) × (y .answer .place ≡ 0)
+            → (cond b x y .answer .number ≡ 0) × (cond b x y .answer .place ≡ 0)
+        either true x y g h = g
+        either false x y g h = h
+
+        done : (donePlan (netOf lent) n order starts seed rounds .answer .number ≡ 0) × (donePlan (netOf lent) n order starts seed rounds .answer .place ≡ 0)
+        done = unfold donePlan donePlanned doneImproved in (either (hasSides (netOf lent) n) _ _ (refl, refl) (refl, refl))
+
+-- the two-sided call: where the network is within the limits the marks find two sides exactly where there are some
+module _ (n : ℕ) (lent : Lent) (order : List ℕ) where
+  sides-give : Network n lent → Gives (sidesTest n (netOf lent) ∷ []) (sidesFault n (netOf lent))
+  unfolding sidesFault
+  sides-give w = refuse-gives 9 _ (not (hasSides (netOf lent) n)) (omega arith) (record {
+    holds = λ e high split. true≢false (sym (found-all (netOf lent) n (w .few) (network-good n lent w) high split) ∙ not-true _ e);
+    fails = λ e none. none (isHigh (netOf lent) n) (found-sides (netOf lent) n (w .few) (network-good n lent w) (not-false _ e) .split);
+  })
+
+  pub siding-gives : Gives (twoSidesTests n lent order) (fault (siding n lent order .answer .number) (siding n lent order .answer .place))
+  unfolding twoSidesTests siding twoSidesFault
+  siding-gives =
+      unless-gives (λ (r : Left Sided (List ℕ)). r .answer .number) (λ (r : Left Sided (List ℕ)). r .answer .place)
+      (twoSidesTests n lent order) (twoSidesFault n lent order) _ _ refl refl refl refl
+      (gives-append (lentTests n lent (sizeTest order 128 ∷ [])) _ (lentFault n lent (sizeFault order 128)) _
+      (lent-gives n lent _ (sizeFault order 128) (size-gives order 128)) (λ z. sides-give (lent-clear n lent (sizeFault order 128) z .0)))
+
+-- the floor
+pub flooring-gives : (n : ℕ) (lent : Lent) (list : List ℕ)
+    → Gives (floorTests n lent list) (fault (flooring n lent list .number) (flooring n lent list .place))
+unfolding floorTests flooring floorFault listFault
+flooring-gives n lent list =
+    unless-gives (λ (r : Floored). r .number) (λ (r : Floored). r .place) (floorTests n lent list) (floorFault n lent list) _ _ refl refl refl refl
+    (gives-append (lentTests n lent []) _ (lentFault n lent noFault) _ (lent-gives n lent [] noFault gives-done) (λ z.
+    then (lengthTest list) _ (refuseIf (outside 1 8 (length list)) 15 0) _
+    (refuse-gives 15 _ (outside 1 8 (length list)) (omega arith) (tells-outside 1 8 (length list))) (λ _.
+    scan-gives 15 (length list) _ (badMember n (netOf lent) list) (omega arith) (λ k l. tells-member n (netOf lent) list k))))
+
+-- the writer
+module _ (n : ℕ) (labels : List ℕ) (lent : Lent) (starts text : List ℕ) where
+  label-sizes-give : Gives (sizeTest labels 1024 ∷ sizeTest starts 128 ∷ []) (labelSizes labels starts)
+  unfolding labelSizes
+  label-sizes-give = two-sizes labels starts 1024 128
+
+  room-gives : Gives (roomTest n labels lent starts text ∷ []) (refuseIf (ltb (length text) (length (sheetText n labels lent starts))) 16 0)
+  room-gives = refuse-gives 16 _ (ltb (length text) (length (sheetText n labels lent starts))) (omega arith) (tells-lt _ _)
+
+  write-gives : Gives (writeTests n labels lent starts text) (writeFault n labels lent starts text)
+  unfolding writeTests writeFault
+  write-gives =
+      gives-append (lentTests n lent (sizeTest labels 1024 ∷ sizeTest starts 128 ∷ [])) _ (lentFault n lent (labelSizes labels starts)) _
+      (lent-gives n lent _ (labelSizes labels starts) label-sizes-give) (λ _.
+      then (labelTest n labels) _ (scan 11 (badLabel labels) n) _ (scan-gives 11 n _ (badLabel labels) (omega arith) (λ k l. tells-label labels k)) (λ z.
+      then (labelTwiceTest n labels) _ (scan 12 (labelTwice labels) n) _
+      (scan-gives 12 n _ (labelTwice labels) (omega arith) (λ k l. tells-twice labels k (scan-clear 11 (badLabel labels) n (omega arith) z k l))) (λ _.
+      then (pairsTest n (lent .guards)) _ (refuseIf (ltb 2000 (pairs n (lent .guards))) 1 0) _
+      (refuse-gives 1 _ (ltb 2000 (pairs n (lent .guards))) (omega arith) (tells-lt 2000 (pairs n (lent .guards)))) (λ _.
+      then (writtenStartTest n starts) _ (scan 7 (λ k. hasPlan n starts && badStart starts k) n) _
+      (scan-gives 7 n _ (λ k. hasPlan n starts && badStart starts k) (omega arith) (λ k l. tells-start n starts k)) (λ _. room-gives)))))
+
+  pub writing-gives : Gives (writeTests n labels lent starts text) (fault (writing n labels lent starts text .answer .number) (writing n labels lent starts text .answer .place))
+  unfolding writing
+  writing-gives =
+      unless-gives (λ (r : Left SheetWritten (List ℕ)). r .answer .number) (λ (r : Left SheetWritten (List ℕ)). r .answer .place)
+      (writeTests n labels lent starts text) (writeFault n labels lent starts text) _ _ refl refl refl refl write-gives
