@@ -25,3 +25,5 @@ pub mod SheetTrip
 pub mod SameBytes
 pub mod Longest
 pub mod ReadBack
+-- the sheet's lines and the program
+pub mod Forms
