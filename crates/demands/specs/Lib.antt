@@ -27,3 +27,4 @@ pub mod Longest
 pub mod ReadBack
 -- the sheet's lines and the program
 pub mod Forms
+pub mod OnLines
