@@ -28,3 +28,4 @@ pub mod ReadBack
 -- the sheet's lines and the program
 pub mod Forms
 pub mod OnLines
+pub mod OnReading

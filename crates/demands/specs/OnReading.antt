@@ -1,0 +1,252 @@
+-- Demand 1, the reader: the answer's number and place are those of the first line at fault; 0 exactly where every line is right; and what
+-- the tables then hold. "The reader: 2 first, then the first line at fault." Assumes nothing.
+use Prim.Native.Nat.{ℕ, zero, suc, _+_, _*_, _≤_, _<_}
+use mathlib.Core.Path.{_≡_, refl, sym, ap, subst, _∙_}
+use mathlib.Core.Logic.{_≢_, _⊎_, inl, inr}
+use mathlib.Core.Bool.{Bool, true, false, cond, _&&_, false≢true}
+use mathlib.Core.List.{List, [], _∷_, _++_}
+use native.Mathlib.Omega.{arith}
+use native.Mathlib.Decide.{decLt, ℕ-discrete}
+use native.Mathlib.Nat.{add-zero}
+use lib.Dec.{eqb}
+use borrow.Author.Tests.{eq-eqb}
+use lib.ListN.{length, drop, set, length-set, length-append}
+use Rattle.rules.specs.declared.Fault.{Fault}
+use Rattle.rules.specs.declared.SheetRead.{SheetRead}
+use Rattle.rules.specs.Tables.{at, cell, cleared, Lent, lend, clearedNetwork}
+use Rattle.rules.specs.Text.{Parsed, none, some, pathsWord, guardsWord, startsWord}
+use Rattle.rules.specs.Sheet.{Line, wrong, right, Section, halt, done, lines, countLine, pathStep, guardStep, startStep, counted, after, ended, startsPart, guardsPart, sheetFrom}
+use Rattle.rules.specs.Writing.{countText}
+use Rattle.rules.specs.Numbers.{sheetSizes}
+use Rattle.rules.specs.Calls.{Left, left, readOutcome, reading}
+use Rattle.table_laws.specs.Tables.{at-same, at-other, cleared-length, cleared-at}
+use Rattle.plan_laws.specs.Answers.{unless-done, unless-refused}
+use Rattle.sheet_laws.specs.Lines.{starts-none, starts-ill, starts-count, starts-halt, starts-left, starts-done, guards-ill, guards-many, guards-halt, guards-rest, sheet-ill, sheet-few, sheet-many, sheet-halt, sheet-later, sheet-done}
+use Rattle.sheet_laws.specs.Rows.{put-length, put-past}
+use Rattle.sheet_laws.specs.Writes.{count-length}
+use Rattle.demands.specs.Forms.{CountForm, count-form, form-count}
+use Rattle.demands.specs.OnLines.{PathSays, GuardSays, StartSays, path-says, guard-says, start-says, FirstRight, start, more, LinesSay, stops, ends, lines-say, lines-only}
+
+-- no count of the section stands here: "a missing line is 11", too
+abbrev pub NoCount : List ℕ → List ℕ → Type 0
+NoCount word l = (m : ℕ) (r : List ℕ) → CountForm word l m r → ⊥
+
+-- the count and the lines of the paths are right: they are n, leave labels and widths, and the text l₂ comes after them
+pub record PathsRight (l : List ℕ) (n : ℕ) (labels widths l₂ : List ℕ) : Type 0 where
+  pub l₁ : List ℕ
+  pub count : CountForm pathsWord l n l₁
+  pub least : 1 ≤ n
+  pub most : n ≤ 128
+  pub each : FirstRight pathStep (cleared 1024 0, cleared 128 0) l₁ n (labels, widths) l₂
+
+-- so are those of the guards, which are m
+pub record GuardsRight (l : List ℕ) (n : ℕ) (labels widths : List ℕ) (m : ℕ) (guards l₄ : List ℕ) : Type 0 where
+  pub l₂ : List ℕ
+  pub l₃ : List ℕ
+  pub paths : PathsRight l n labels widths l₂
+  pub count : CountForm guardsWord l₂ m l₃
+  pub most : m ≤ 2000
+  pub each : FirstRight (guardStep n labels) (cleared 16384 255) l₃ m guards l₄
+
+-- a plan follows: its count and lines are right, k of them
+pub record StartsRight (l : List ℕ) (n : ℕ) (labels widths : List ℕ) (m : ℕ) (guards : List ℕ) (k : ℕ) (starts l₆ : List ℕ) : Type 0 where
+  pub l₄ : List ℕ
+  pub l₅ : List ℕ
+  pub guarded : GuardsRight l n labels widths m guards l₄
+  pub count : CountForm startsWord l₄ n l₅
+  pub each : FirstRight (startStep labels) (cleared 128 0) l₅ k starts l₆
+
+-- What a whole sheet comes to: the number and the line of its first line at fault, or its tables. Line 1 is the paths' count, n + 2 the guards',
+-- n + m + 3 the starts'
+pub data SheetSays (l : List ℕ) : Section (ℕ × List ℕ × Lent × List ℕ) → Type 0 where
+  pathsForm : NoCount pathsWord l → SheetSays l (halt 11 1)
+  pathsCount : (n : ℕ) (r : List ℕ) → CountForm pathsWord l n r → (n < 1) ⊎ (128 < n) → SheetSays l (halt 1 1)
+  pathLineWrong : (n : ℕ) (l₁ : List ℕ) → CountForm pathsWord l n l₁ → 1 ≤ n → n ≤ 128
+      → (k : ℕ) (t : List ℕ × List ℕ) (l₂ : List ℕ) (x : ℕ) → k < n → FirstRight pathStep (cleared 1024 0, cleared 128 0) l₁ k t l₂
+      → pathStep k t l₂ ≡ wrong x → SheetSays l (halt x (2 + k))
+  guardsForm : (n : ℕ) (labels widths l₂ : List ℕ) → PathsRight l n labels widths l₂ → NoCount guardsWord l₂ → SheetSays l (halt 11 (n + 2))
+  guardsCount : (n : ℕ) (labels widths l₂ : List ℕ) → PathsRight l n labels widths l₂ → (m : ℕ) (r : List ℕ) → CountForm guardsWord l₂ m r → 2000 < m
+      → SheetSays l (halt 1 (n + 2))
+  guardLineWrong : (n : ℕ) (labels widths l₂ : List ℕ) → PathsRight l n labels widths l₂ → (m : ℕ) (l₃ : List ℕ) → CountForm guardsWord l₂ m l₃ → m ≤ 2000
+      → (k : ℕ) (t l₄ : List ℕ) (x : ℕ) → k < m → FirstRight (guardStep n labels) (cleared 16384 255) l₃ k t l₄
+      → guardStep n labels k t l₄ ≡ wrong x → SheetSays l (halt x (n + 3 + k))
+  withoutPlan : (n : ℕ) (labels widths : List ℕ) (m : ℕ) (guards : List ℕ) → GuardsRight l n labels widths m guards []
+      → SheetSays l (done (n, labels, lend widths guards, cleared 128 0) [])
+  startsForm : (n : ℕ) (labels widths : List ℕ) (m : ℕ) (guards : List ℕ) (y : ℕ) (r : List ℕ) → GuardsRight l n labels widths m guards (y ∷ r)
+      → NoCount startsWord (y ∷ r) → SheetSays l (halt 11 (n + m + 3))
+  startsCount : (n : ℕ) (labels widths : List ℕ) (m : ℕ) (guards l₄ : List ℕ) → GuardsRight l n labels widths m guards l₄
+      → (c : ℕ) (r : List ℕ) → CountForm startsWord l₄ c r → c ≢ n → SheetSays l (halt 1 (n + m + 3))
+  startLineWrong : (n : ℕ) (labels widths : List ℕ) (m : ℕ) (guards : List ℕ) (k : ℕ) (t l₆ : List ℕ) (x : ℕ) → k < n → StartsRight l n labels widths m guards k t l₆
+      → startStep labels k t l₆ ≡ wrong x → SheetSays l (halt x (n + m + 3 + 1 + k))
+  leftOver : (n : ℕ) (labels widths : List ℕ) (m : ℕ) (guards starts : List ℕ) (y : ℕ) (r : List ℕ) → StartsRight l n labels widths m guards n starts (y ∷ r)
+      → SheetSays l (halt 11 (n + m + 3 + 1 + n))
+  withPlan : (n : ℕ) (labels widths : List ℕ) (m : ℕ) (guards starts : List ℕ) → StartsRight l n labels widths m guards n starts []
+      → SheetSays l (done (n, labels, lend widths guards, starts) [])
+
+-- a count stands in front of a text, or none does
+count-says : (word l : List ℕ) → ((m : ℕ) × (r : List ℕ) × (countLine word l ≡ some m r)) ⊎ (countLine word l ≡ none)
+count-says word l = go (countLine word l) refl
+  where
+    go : (p : Parsed ℕ) → countLine word l ≡ p → ((m : ℕ) × (r : List ℕ) × (countLine word l ≡ some m r)) ⊎ (countLine word l ≡ none)
+    go none e = inr e
+    go (some m r) e = inl (m, r, e)
+
+no-count : (word l : List ℕ) → countLine word l ≡ none → NoCount word l
+no-count word l e m r f = let x = form-count word l m r f in let z : _≡_ {A = ℕ} 0 1 = cc in omega arith
+
+none-count : (word l : List ℕ) → NoCount word l → countLine word l ≡ none
+none-count word l h = go (count-says word l)
+  where
+    go : ((m : ℕ) × (r : List ℕ) × (countLine word l ≡ some m r)) ⊎ (countLine word l ≡ none) → countLine word l ≡ none
+    go (inl c) = absurd (h (c .0) (c .1) (count-form word l (c .0) (c .1) (c .2)))
+    go (inr e) = e
+
+-- the sheet as it is read, over cleared tables
+abbrev pub sheetRead : List ℕ → Section (ℕ × List ℕ × Lent × List ℕ)
+sheetRead l = sheetFrom (cleared 1024 0) clearedNetwork (cleared 128 0) l
+
+-- the starts, once their lines are right: nothing may come after them
+starts-end : (n line : ℕ) (labels starts l₄ l₅ l₆ : List ℕ) → countLine startsWord l₄ ≡ some n l₅ → 0 < length l₄
+    → lines (startStep labels) (line + 1) n 0 (cleared 128 0) l₅ ≡ done starts l₆ → startsPart n line labels (cleared 128 0) l₄ ≡ ended (line + 1 + n) starts l₆
+unfolding startsPart counted after
+starts-end n line labels starts [] l₅ l₆ e some-byte f = absurd (omega arith)
+starts-end n line labels starts (y ∷ u) l₅ l₆ e some-byte f = rw (e, eq-eqb n n refl, f)
+
+module _ (l : List ℕ) where
+  module _ (n : ℕ) (labels widths l₂ : List ℕ) (p : PathsRight l n labels widths l₂) where
+    paths-done : lines pathStep 2 n 0 (cleared 1024 0, cleared 128 0) (p .l₁) ≡ done (labels, widths) l₂
+    paths-done = lines-only pathStep 2 (cleared 1024 0, cleared 128 0) (p .l₁) n _ (ends (labels, widths) l₂ (p .each))
+
+    -- what the guards and the starts come to, the sheet comes to
+    rest-halts : (x y : ℕ) → guardsPart n labels (cleared 16384 255) (cleared 128 0) l₂ ≡ halt x y → sheetRead l ≡ halt x y
+    rest-halts x y e =
+        sheet-later (cleared 1024 0) clearedNetwork (cleared 128 0) l n (p .l₁) (form-count pathsWord l n (p .l₁) (p .count)) (p .least) (p .most) labels widths l₂ paths-done x y e
+
+    rest-done : (guards starts l₃ : List ℕ) → guardsPart n labels (cleared 16384 255) (cleared 128 0) l₂ ≡ done (guards, starts) l₃
+        → sheetRead l ≡ done (n, labels, lend widths guards, starts) []
+    rest-done guards starts l₃ e =
+        sheet-done (cleared 1024 0) clearedNetwork (cleared 128 0) l n (p .l₁) (form-count pathsWord l n (p .l₁) (p .count)) (p .least) (p .most) labels widths l₂ paths-done guards starts l₃ e
+
+  module _ (n : ℕ) (labels widths : List ℕ) (m : ℕ) (guards l₄ : List ℕ) (g : GuardsRight l n labels widths m guards l₄) where
+    guards-then : guardsPart n labels (cleared 16384 255) (cleared 128 0) (g .l₂) ≡ after (startsPart n (n + m + 3) labels (cleared 128 0) l₄) (λ (s r : List ℕ). done (guards, s) r)
+    guards-then =
+        guards-rest n labels (cleared 16384 255) (cleared 128 0) (g .l₂) m (g .l₃) (form-count guardsWord (g .l₂) m (g .l₃) (g .count)) (g .most) guards l₄
+        (lines-only (guardStep n labels) (n + 3) (cleared 16384 255) (g .l₃) m _ (ends guards l₄ (g .each)))
+
+    starts-halt-sheet : (x y : ℕ) → startsPart n (n + m + 3) labels (cleared 128 0) l₄ ≡ halt x y → sheetRead l ≡ halt x y
+    unfolding after
+    starts-halt-sheet x y e = rest-halts n labels widths (g .l₂) (g .paths) x y (guards-then ∙ rw e)
+
+    starts-done-sheet : (starts r : List ℕ) → startsPart n (n + m + 3) labels (cleared 128 0) l₄ ≡ done starts r → sheetRead l ≡ done (n, labels, lend widths guards, starts) []
+    unfolding after
+    starts-done-sheet starts r e = rest-done n labels widths (g .l₂) (g .paths) guards starts r (guards-then ∙ rw e)
+
+  module _ (n : ℕ) (labels widths : List ℕ) (m : ℕ) (guards : List ℕ) (k : ℕ) (starts l₆ : List ℕ) (s : StartsRight l n labels widths m guards k starts l₆) where
+    counted-is : countLine startsWord (s .l₄) ≡ some n (s .l₅)
+    counted-is = form-count startsWord (s .l₄) n (s .l₅) (s .count)
+
+    some-text : 0 < length (s .l₄)
+    some-text = go (s .l₄) (s .count .text)
+      where
+        go : (u : List ℕ) → u ≡ countText startsWord n ++ s .l₅ → 0 < length u
+        go [] e = absurd (omega (arith, ap length e, length-append (countText startsWord n) (s .l₅), count-length startsWord n))
+        go (y ∷ u) e = omega arith
+
+  -- each of these is what the sheet comes to
+  pub sheet-only : (x : Section (ℕ × List ℕ × Lent × List ℕ)) → SheetSays l x → sheetRead l ≡ x
+  unfolding ended
+  sheet-only x (pathsForm h) = sheet-ill (cleared 1024 0) clearedNetwork (cleared 128 0) l (none-count pathsWord l h)
+  sheet-only x (pathsCount n r c (inl a)) = sheet-few (cleared 1024 0) clearedNetwork (cleared 128 0) l n r (form-count pathsWord l n r c) a
+  sheet-only x (pathsCount n r c (inr a)) = sheet-many (cleared 1024 0) clearedNetwork (cleared 128 0) l n r (form-count pathsWord l n r c) a
+  sheet-only x (pathLineWrong n l₁ c a b k t l₂ y h f e) =
+      sheet-halt (cleared 1024 0) clearedNetwork (cleared 128 0) l n l₁ (form-count pathsWord l n l₁ c) a b y (2 + k)
+      (lines-only pathStep 2 (cleared 1024 0, cleared 128 0) l₁ n _ (stops k t l₂ y h f e))
+  sheet-only x (guardsForm n labels widths l₂ p h) =
+      rest-halts n labels widths l₂ p 11 (n + 2) (guards-ill n labels (cleared 16384 255) (cleared 128 0) l₂ (none-count guardsWord l₂ h))
+  sheet-only x (guardsCount n labels widths l₂ p m r c h) =
+      rest-halts n labels widths l₂ p 1 (n + 2) (guards-many n labels (cleared 16384 255) (cleared 128 0) l₂ m r (form-count guardsWord l₂ m r c) h)
+  sheet-only x (guardLineWrong n labels widths l₂ p m l₃ c b k t l₄ y h f e) =
+      rest-halts n labels widths l₂ p y (n + 3 + k)
+      (guards-halt n labels (cleared 16384 255) (cleared 128 0) l₂ m l₃ (form-count guardsWord l₂ m l₃ c) b y (n + 3 + k)
+      (lines-only (guardStep n labels) (n + 3) (cleared 16384 255) l₃ m _ (stops k t l₄ y h f e)))
+  sheet-only x (withoutPlan n labels widths m guards g) =
+      starts-done-sheet n labels widths m guards [] g (cleared 128 0) [] (starts-none n (n + m + 3) labels (cleared 128 0) [] 0 (omega arith))
+  sheet-only x (startsForm n labels widths m guards y r g h) =
+      starts-halt-sheet n labels widths m guards (y ∷ r) g 11 (n + m + 3) (starts-ill n (n + m + 3) labels (cleared 128 0) (y ∷ r) 0 (omega arith) (none-count startsWord (y ∷ r) h))
+  sheet-only x (startsCount n labels widths m guards [] g c r f h) = absurd (omega (arith, ap length (f .text), length-append (countText startsWord c) r, count-length startsWord c))
+  sheet-only x (startsCount n labels widths m guards (y ∷ u) g c r f h) =
+      starts-halt-sheet n labels widths m guards (y ∷ u) g 1 (n + m + 3) (starts-count n (n + m + 3) labels (cleared 128 0) (y ∷ u) 0 (omega arith) c r (form-count startsWord (y ∷ u) c r f) h)
+  sheet-only x (startLineWrong n labels widths m guards k t l₆ y h s e) =
+      starts-halt-sheet n labels widths m guards (s .l₄) (s .guarded) y (n + m + 3 + 1 + k)
+      (starts-halt n (n + m + 3) labels (cleared 128 0) (s .l₄) 0 (some-text n labels widths m guards k t l₆ s) n (s .l₅) (counted-is n labels widths m guards k t l₆ s) refl y (n + m + 3 + 1 + k)
+      (lines-only (startStep labels) (n + m + 3 + 1) (cleared 128 0) (s .l₅) n _ (stops k t l₆ y h (s .each) e)))
+  sheet-only x (leftOver n labels widths m guards starts y r s) =
+      starts-halt-sheet n labels widths m guards (s .l₄) (s .guarded) 11 (n + m + 3 + 1 + n)
+      (starts-end n (n + m + 3) labels starts (s .l₄) (s .l₅) (y ∷ r) (counted-is n labels widths m guards n starts (y ∷ r) s) (some-text n labels widths m guards n starts (y ∷ r) s)
+      (lines-only (startStep labels) (n + m + 3 + 1) (cleared 128 0) (s .l₅) n _ (ends starts (y ∷ r) (s .each))))
+  sheet-only x (withPlan n labels widths m guards starts s) =
+      starts-done-sheet n labels widths m guards (s .l₄) (s .guarded) starts []
+      (starts-end n (n + m + 3) labels starts (s .l₄) (s .l₅) [] (counted-is n labels widths m guards n starts [] s) (some-text n labels widths m guards n starts [] s)
+      (lines-only (startStep labels) (n + m + 3 + 1) (cleared 128 0) (s .l₅) n _ (ends starts [] (s .each))))
+
+  -- and one of them holds
+  one-says : (x : Section (ℕ × List ℕ × Lent × List ℕ)) × SheetSays l x
+  one-says = paths (count-says pathsWord l)
+    where
+      starts-one : (n : ℕ) (labels widths : List ℕ) (m : ℕ) (guards l₄ : List ℕ) → GuardsRight l n labels widths m guards l₄ → (x : Section (ℕ × List ℕ × Lent × List ℕ)) × SheetSays l x
+      starts-one n labels widths m guards [] g = (_, withoutPlan n labels widths m guards g)
+      starts-one n labels widths m guards (y ∷ u) g = counted-one (count-says startsWord (y ∷ u))
+        where
+          each-one : (l₅ : List ℕ) → CountForm startsWord (y ∷ u) n l₅ → (x : Section (List ℕ)) → LinesSay (startStep labels) 0 n (cleared 128 0) l₅ x
+              → (x : Section (ℕ × List ℕ × Lent × List ℕ)) × SheetSays l x
+          each-one l₅ c x (stops k t l₆ z h f e) = (_, startLineWrong n labels widths m guards k t l₆ z h (record { l₄ = y ∷ u; l₅ = l₅; guarded = g; count = c; each = f }) e)
+          each-one l₅ c x (ends t [] f) = (_, withPlan n labels widths m guards t (record { l₄ = y ∷ u; l₅ = l₅; guarded = g; count = c; each = f }))
+          each-one l₅ c x (ends t (z ∷ r) f) = (_, leftOver n labels widths m guards t z r (record { l₄ = y ∷ u; l₅ = l₅; guarded = g; count = c; each = f }))
+
+          counted-one : ((c : ℕ) × (r : List ℕ) × (countLine startsWord (y ∷ u) ≡ some c r)) ⊎ (countLine startsWord (y ∷ u) ≡ none) → (x : Section (ℕ × List ℕ × Lent × List ℕ)) × SheetSays l x
+          counted-one (inr e) = (_, startsForm n labels widths m guards y u g (no-count startsWord (y ∷ u) e))
+          counted-one (inl c) = by (ℕ-discrete (c .0) n)
+            where
+              f : CountForm startsWord (y ∷ u) (c .0) (c .1)
+              f = count-form startsWord (y ∷ u) (c .0) (c .1) (c .2)
+
+              by : Dec (c .0 ≡ n) → (x : Section (ℕ × List ℕ × Lent × List ℕ)) × SheetSays l x
+              by (no h) = (_, startsCount n labels widths m guards (y ∷ u) g (c .0) (c .1) f h)
+              by (yes q) = each-one (c .1) (subst (λ k. CountForm startsWord (y ∷ u) k (c .1)) q f) _ (lines-say (startStep labels) 0 (cleared 128 0) (c .1) n)
+
+      guards-one : (n : ℕ) (labels widths l₂ : List ℕ) → PathsRight l n labels widths l₂ → ((c : ℕ) × (r : List ℕ) × (countLine guardsWord l₂ ≡ some c r)) ⊎ (countLine guardsWord l₂ ≡ none)
+          → (x : Section (ℕ × List ℕ × Lent × List ℕ)) × SheetSays l x
+      guards-one n labels widths l₂ p (inr e) = (_, guardsForm n labels widths l₂ p (no-count guardsWord l₂ e))
+      guards-one n labels widths l₂ p (inl c) = by (decLt 2000 (c .0))
+        where
+          f : CountForm guardsWord l₂ (c .0) (c .1)
+          f = count-form guardsWord l₂ (c .0) (c .1) (c .2)
+
+          each-one : c .0 ≤ 2000 → (x : Section (List ℕ)) → LinesSay (guardStep n labels) 0 (c .0) (cleared 16384 255) (c .1) x → (x : Section (ℕ × List ℕ × Lent × List ℕ)) × SheetSays l x
+          each-one b x (stops k t l₄ z h g e) = (_, guardLineWrong n labels widths l₂ p (c .0) (c .1) f b k t l₄ z h g e)
+          each-one b x (ends t l₄ g) = starts-one n labels widths (c .0) t l₄ (record { l₂ = l₂; l₃ = c .1; paths = p; count = f; most = b; each = g })
+
+          by : Dec (2000 < c .0) → (x : Section (ℕ × List ℕ × Lent × List ℕ)) × SheetSays l x
+          by (yes h) = (_, guardsCount n labels widths l₂ p (c .0) (c .1) f h)
+          by (no h) = each-one (omega arith) _ (lines-say (guardStep n labels) 0 (cleared 16384 255) (c .1) (c .0))
+
+      paths : ((c : ℕ) × (r : List ℕ) × (countLine pathsWord l ≡ some c r)) ⊎ (countLine pathsWord l ≡ none) → (x : Section (ℕ × List ℕ × Lent × List ℕ)) × SheetSays l x
+      paths (inr e) = (_, pathsForm (no-count pathsWord l e))
+      paths (inl c) = by (decLt (c .0) 1) (decLt 128 (c .0))
+        where
+          f : CountForm pathsWord l (c .0) (c .1)
+          f = count-form pathsWord l (c .0) (c .1) (c .2)
+
+          each-one : 1 ≤ c .0 → c .0 ≤ 128 → (x : Section (List ℕ × List ℕ)) → LinesSay pathStep 0 (c .0) (cleared 1024 0, cleared 128 0) (c .1) x
+              → (x : Section (ℕ × List ℕ × Lent × List ℕ)) × SheetSays l x
+          each-one a b x (stops k t l₂ z h g e) = (_, pathLineWrong (c .0) (c .1) f a b k t l₂ z h g e)
+          each-one a b x (ends t l₂ g) =
+              guards-one (c .0) (t .0) (t .1) l₂ (record { l₁ = c .1; count = f; least = a; most = b; each = g }) (count-says guardsWord l₂)
+
+          by : Dec (c .0 < 1) → Dec (128 < c .0) → (x : Section (ℕ × List ℕ × Lent × List ℕ)) × SheetSays l x
+          by (yes h) k = (_, pathsCount (c .0) (c .1) f (inl h))
+          by (no h) (yes k) = (_, pathsCount (c .0) (c .1) f (inr k))
+          by (no h) (no k) = each-one (omega arith) (omega arith) _ (lines-say pathStep 0 (cleared 1024 0, cleared 128 0) (c .1) (c .0))
+
+  pub sheet-says : SheetSays l (sheetRead l)
+  sheet-says = let y = one-says in subst (SheetSays l) (sym (sheet-only (y .0) (y .1))) (y .1)
