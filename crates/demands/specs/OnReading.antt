@@ -3,7 +3,7 @@
 use Prim.Native.Nat.{ℕ, zero, suc, _+_, _*_, _≤_, _<_}
 use mathlib.Core.Path.{_≡_, refl, sym, ap, subst, _∙_}
 use mathlib.Core.Logic.{_≢_, _⊎_, inl, inr}
-use mathlib.Core.Bool.{Bool, true, false, cond, _&&_, false≢true}
+use mathlib.Core.Bool.{Bool, true, false, not}
 use mathlib.Core.List.{List, [], _∷_, _++_}
 use native.Mathlib.Omega.{arith}
 use native.Mathlib.Decide.{decLt, ℕ-discrete}
@@ -14,18 +14,21 @@ use lib.ListN.{length, drop, set, length-set, length-append}
 use Rattle.rules.specs.declared.Fault.{Fault}
 use Rattle.rules.specs.declared.SheetRead.{SheetRead}
 use Rattle.rules.specs.Tables.{at, cell, cleared, Lent, lend, clearedNetwork}
-use Rattle.rules.specs.Text.{Parsed, none, some, pathsWord, guardsWord, startsWord}
-use Rattle.rules.specs.Sheet.{Line, wrong, right, Section, halt, done, lines, countLine, pathStep, guardStep, startStep, counted, after, ended, startsPart, guardsPart, sheetFrom}
+use Rattle.rules.specs.Text.{Parsed, none, some, then, run, label, pathsWord, guardsWord, startsWord}
+use Rattle.rules.specs.Sheet.{Line, wrong, right, Section, halt, done, lines, countLine, pathLine, guardLine, pathMeans, guardMeans, startMeans, pathStep, guardStep, startStep, counted, after, ended, startsPart, guardsPart, sheetFrom}
 use Rattle.rules.specs.Writing.{countText}
-use Rattle.rules.specs.Numbers.{sheetSizes}
+use Rattle.rules.specs.Numbers.{fault, noFault, refuseIf, _orElse_, sizeFault, networkSizes, labelSizes, sheetSizes}
 use Rattle.rules.specs.Calls.{Left, left, readOutcome, reading}
 use Rattle.table_laws.specs.Tables.{at-same, at-other, cleared-length, cleared-at}
+use Rattle.table_laws.specs.Faults.{refuse-bad, refuse-not, or-first, or-second, or-clear, or-none, size-good, size-clear}
+use Rattle.table_laws.specs.Limits.{clear-of}
+use Rattle.table_laws.specs.Chains.{sizes-clear}
 use Rattle.plan_laws.specs.Answers.{unless-done, unless-refused}
 use Rattle.sheet_laws.specs.Lines.{starts-none, starts-ill, starts-count, starts-halt, starts-left, starts-done, guards-ill, guards-many, guards-halt, guards-rest, sheet-ill, sheet-few, sheet-many, sheet-halt, sheet-later, sheet-done}
 use Rattle.sheet_laws.specs.Rows.{put-length, put-past}
 use Rattle.sheet_laws.specs.Writes.{count-length}
 use Rattle.demands.specs.Forms.{CountForm, count-form, form-count}
-use Rattle.demands.specs.OnLines.{PathSays, GuardSays, StartSays, path-says, guard-says, start-says, FirstRight, start, more, LinesSay, stops, ends, lines-say, lines-only}
+use Rattle.demands.specs.OnLines.{PathSays, form, labelTwice, width, fine, GuardSays, unknown, itself, pairTwice, over, StartSays, other, path-says, guard-says, start-says, FirstRight, start, more, LinesSay, stops, ends, lines-say, lines-only}
 
 -- no count of the section stands here: "a missing line is 11", too
 abbrev pub NoCount : List ℕ → List ℕ → Type 0
@@ -250,3 +253,205 @@ module _ (l : List ℕ) where
 
   pub sheet-says : SheetSays l (sheetRead l)
   sheet-says = let y = one-says in subst (SheetSays l) (sym (sheet-only (y .0) (y .1))) (y .1)
+
+-- A line that is missing is of wrong form
+pub missing-line : (k n : ℕ) (labels widths table : List ℕ)
+    → (pathStep k (labels, widths) [] ≡ wrong 11) × (guardStep n labels k table [] ≡ wrong 11) × (startStep labels k table [] ≡ wrong 11)
+unfolding pathStep pathMeans pathLine guardStep guardMeans guardLine startStep startMeans then label run
+missing-line k n labels widths table = (refl, refl, refl)
+
+pub missing-count : (word : List ℕ) → 1 ≤ length word → NoCount word []
+missing-count word some-byte m r f = omega (arith, ap length (f .text), length-append (countText word m) r, count-length word m)
+
+-- the numbers of lines: none is 0, and none is 2
+abbrev pub Named : ℕ → Type 0
+Named x = (x ≢ 0) × (x ≢ 2)
+
+path-named : (k : ℕ) (labels widths l : List ℕ) (y : Line (List ℕ × List ℕ)) (x : ℕ) → PathSays k labels widths l y → y ≡ wrong x → Named x
+path-named k labels widths l y x (form h) e = let q : 11 ≡ x = cc in (λ z. omega arith, λ z. omega arith)
+path-named k labels widths l y x (labelTwice w v r f i h) e = let q : 12 ≡ x = cc in (λ z. omega arith, λ z. omega arith)
+path-named k labels widths l y x (width w v r f u h) e = let q : 3 ≡ x = cc in (λ z. omega arith, λ z. omega arith)
+path-named k labels widths l y x (fine w v r f u a b) e = let z : _≡_ {A = ℕ} 0 1 = cc in absurd (omega arith)
+
+guard-named : (n : ℕ) (labels guards l : List ℕ) (y : Line (List ℕ)) (x : ℕ) → GuardSays n labels guards l y → y ≡ wrong x → Named x
+guard-named n labels guards l y x (form h) e = let q : 11 ≡ x = cc in (λ z. omega arith, λ z. omega arith)
+guard-named n labels guards l y x (unknown a b g r f h) e = let q : 13 ≡ x = cc in (λ z. omega arith, λ z. omega arith)
+guard-named n labels guards l y x (itself a b g r f i s t) e = let q : 13 ≡ x = cc in (λ z. omega arith, λ z. omega arith)
+guard-named n labels guards l y x (pairTwice a b g r f i j s t d c) e = let q : 14 ≡ x = cc in (λ z. omega arith, λ z. omega arith)
+guard-named n labels guards l y x (over a b g r f i j s t d c h) e = let q : 4 ≡ x = cc in (λ z. omega arith, λ z. omega arith)
+guard-named n labels guards l y x (fine a b g r f i j s t d c h) e = let z : _≡_ {A = ℕ} 0 1 = cc in absurd (omega arith)
+
+start-named : (labels : List ℕ) (k : ℕ) (starts l : List ℕ) (y : Line (List ℕ)) (x : ℕ) → StartSays labels k starts l y → y ≡ wrong x → Named x
+start-named labels k starts l y x (form h) e = let q : 11 ≡ x = cc in (λ z. omega arith, λ z. omega arith)
+start-named labels k starts l y x (other w v r f h) e = let q : 13 ≡ x = cc in (λ z. omega arith, λ z. omega arith)
+start-named labels k starts l y x (start w v r f h c) e = let q : 7 ≡ x = cc in (λ z. omega arith, λ z. omega arith)
+start-named labels k starts l y x (fine w v r f h a b) e = let z : _≡_ {A = ℕ} 0 1 = cc in absurd (omega arith)
+
+sheet-named : (l : List ℕ) (s : Section (ℕ × List ℕ × Lent × List ℕ)) (x y : ℕ) → SheetSays l s → s ≡ halt x y → Named x
+sheet-named l s x y (pathsForm h) e = let q : 11 ≡ x = cc in (λ z. omega arith, λ z. omega arith)
+sheet-named l s x y (pathsCount n r c h) e = let q : 1 ≡ x = cc in (λ z. omega arith, λ z. omega arith)
+sheet-named l s x y (pathLineWrong n l₁ c a b k t l₂ u h f g) e =
+    let q : u ≡ x = cc in subst Named q (path-named k (t .0) (t .1) l₂ _ u (path-says k (t .0) (t .1) l₂) g)
+sheet-named l s x y (guardsForm n labels widths l₂ p h) e = let q : 11 ≡ x = cc in (λ z. omega arith, λ z. omega arith)
+sheet-named l s x y (guardsCount n labels widths l₂ p m r c h) e = let q : 1 ≡ x = cc in (λ z. omega arith, λ z. omega arith)
+sheet-named l s x y (guardLineWrong n labels widths l₂ p m l₃ c b k t l₄ u h f g) e =
+    let q : u ≡ x = cc in subst Named q (guard-named n labels t l₄ _ u (guard-says n labels k t l₄) g)
+sheet-named l s x y (withoutPlan n labels widths m guards g) e = let z : _≡_ {A = ℕ} 0 1 = cc in absurd (omega arith)
+sheet-named l s x y (startsForm n labels widths m guards u r g h) e = let q : 11 ≡ x = cc in (λ z. omega arith, λ z. omega arith)
+sheet-named l s x y (startsCount n labels widths m guards l₄ g c r f h) e = let q : 1 ≡ x = cc in (λ z. omega arith, λ z. omega arith)
+sheet-named l s x y (startLineWrong n labels widths m guards k t l₆ u h r g) e =
+    let q : u ≡ x = cc in subst Named q (start-named labels k t l₆ _ u (start-says labels k t l₆) g)
+sheet-named l s x y (leftOver n labels widths m guards starts u r g) e = let q : 11 ≡ x = cc in (λ z. omega arith, λ z. omega arith)
+sheet-named l s x y (withPlan n labels widths m guards starts g) e = let z : _≡_ {A = ℕ} 0 1 = cc in absurd (omega arith)
+
+-- The call. Its tables are of their sizes
+pub record SheetTables (labels : List ℕ) (lent : Lent) (starts : List ℕ) : Type 0 where
+  pub labelsSize : length labels ≡ 1024
+  pub widthsSize : length (lent .widths) ≡ 128
+  pub guardsSize : length (lent .guards) ≡ 16384
+  pub startsSize : length starts ≡ 128
+
+module _ (labels : List ℕ) (lent : Lent) (starts : List ℕ) where
+  pub sizes-right : SheetTables labels lent starts → sheetSizes labels lent starts .number ≡ 0
+  unfolding sheetSizes networkSizes labelSizes
+  sizes-right s =
+      or-none _ _ (or-none _ _ (clear-of (sym (size-good (lent .widths) 128 (s .widthsSize)))) (clear-of (sym (size-good (lent .guards) 16384 (s .guardsSize)))))
+      (or-none _ _ (clear-of (sym (size-good labels 1024 (s .labelsSize)))) (clear-of (sym (size-good starts 128 (s .startsSize)))))
+
+  pub right-sizes : sheetSizes labels lent starts .number ≡ 0 → SheetTables labels lent starts
+  unfolding sheetSizes labelSizes
+  right-sizes z =
+      let a = or-clear (networkSizes lent) _ z in
+      let b = or-clear (sizeFault labels 1024) _ (a .1) in
+      let n = sizes-clear lent (a .0) in
+      record { labelsSize = size-clear labels 1024 (b .0); widthsSize = n .0; guardsSize = n .1; startsSize = size-clear starts 128 (b .1) }
+
+  -- the only fault of sizes is 2, and its place is 0
+  two-or-none : (f : Fault) → Type 0
+  two-or-none f = (f ≡ fault 2 0) ⊎ (f ≡ noFault)
+
+  size-two : (table : List ℕ) (size : ℕ) → two-or-none (sizeFault table size)
+  unfolding sizeFault two-or-none
+  size-two table size = go (not (eqb (length table) size))
+    where
+      go : (b : Bool) → (refuseIf b 2 0 ≡ fault 2 0) ⊎ (refuseIf b 2 0 ≡ noFault)
+      go true = inl (refuse-bad true 2 0 refl)
+      go false = inr (refuse-not false 2 0 refl)
+
+  or-two : (a b : Fault) → two-or-none a → two-or-none b → two-or-none (a orElse b)
+  unfolding two-or-none
+  or-two a b (inl e) h = inl (or-first a b (λ z. omega (arith, ap (λ (f : Fault). f .number) e)) ∙ e)
+  or-two a b (inr e) (inl h) = inl (or-second a b (ap (λ (f : Fault). f .number) e) ∙ h)
+  or-two a b (inr e) (inr h) = inr (or-second a b (ap (λ (f : Fault). f .number) e) ∙ h)
+
+  sizes-two : sheetSizes labels lent starts .number ≢ 0 → sheetSizes labels lent starts ≡ fault 2 0
+  unfolding sheetSizes networkSizes labelSizes two-or-none
+  sizes-two z = go (or-two _ _ (or-two _ _ (size-two (lent .widths) 128) (size-two (lent .guards) 16384)) (or-two _ _ (size-two labels 1024) (size-two starts 128)))
+    where
+      go : (f : (sheetSizes labels lent starts ≡ fault 2 0) ⊎ (sheetSizes labels lent starts ≡ noFault)) → sheetSizes labels lent starts ≡ fault 2 0
+      go (inl e) = e
+      go (inr e) = absurd (z (ap (λ (f : Fault). f .number) e))
+
+module _ (text labels : List ℕ) (lent : Lent) (starts : List ℕ) where
+  abbrev leftBehind : Left SheetRead (List ℕ × Lent × List ℕ)
+  leftBehind = reading text labels lent starts
+
+  -- 2 exactly when a lent table is not of its size: the tables are left as they were
+  pub reading-two : (SheetTables labels lent starts → ⊥) → leftBehind ≡ left (record { number = 2; place = 0; n = 0 }) (labels, lent, starts)
+  unfolding reading
+  reading-two h =
+      let z : sheetSizes labels lent starts .number ≢ 0 = λ z. h (right-sizes labels lent starts z) in
+      unless-refused (sheetSizes labels lent starts) _ _ z
+      ∙ ap (λ (f : Fault). left {A = SheetRead} {T = List ℕ × Lent × List ℕ} (record { number = f .number; place = f .place; n = 0 }) (labels, lent, starts)) (sizes-two labels lent starts z)
+
+  -- otherwise: the first line at fault, with the tables cleared; or the tables that the lines leave
+  module _ (s : SheetTables labels lent starts) where
+    reading-on : leftBehind ≡ readOutcome (sheetRead text)
+    unfolding reading
+    reading-on = unless-done (sheetSizes labels lent starts) _ _ (sizes-right labels lent starts s)
+
+    pub reading-halt : (x y : ℕ) → SheetSays text (halt x y) → leftBehind ≡ left (record { number = x; place = y; n = 0 }) (cleared 1024 0, clearedNetwork, cleared 128 0)
+    unfolding readOutcome
+    reading-halt x y h = reading-on ∙ rw (sheet-only text (halt x y) h)
+
+    pub reading-done : (t : ℕ × List ℕ × Lent × List ℕ) (r : List ℕ) → SheetSays text (done t r)
+        → leftBehind ≡ left (record { number = 0; place = 0; n = t .0 }) (t .1, t .2, t .3)
+    unfolding readOutcome
+    reading-done t r h = reading-on ∙ rw (sheet-only text (done t r) h)
+
+  -- a table of the wrong size, a first line at fault, or a sheet
+  pub data ReadSays : Type 0 where
+    sizeWrong : (SheetTables labels lent starts → ⊥) → leftBehind ≡ left (record { number = 2; place = 0; n = 0 }) (labels, lent, starts) → ReadSays
+    lineWrong : SheetTables labels lent starts → (x y : ℕ) → SheetSays text (halt x y) → Named x
+        → leftBehind ≡ left (record { number = x; place = y; n = 0 }) (cleared 1024 0, clearedNetwork, cleared 128 0) → ReadSays
+    sheetRight : SheetTables labels lent starts → (t : ℕ × List ℕ × Lent × List ℕ) (r : List ℕ) → SheetSays text (done t r)
+        → leftBehind ≡ left (record { number = 0; place = 0; n = t .0 }) (t .1, t .2, t .3) → ReadSays
+
+  pub reading-says : ReadSays
+  reading-says = go (ℕ-discrete (sheetSizes labels lent starts .number) 0)
+    where
+      by : SheetTables labels lent starts → (x : Section (ℕ × List ℕ × Lent × List ℕ)) → SheetSays text x → ReadSays
+      by s (halt x y) h = lineWrong s x y h (sheet-named text (halt x y) x y h refl) (reading-halt s x y h)
+      by s (done t r) h = sheetRight s t r h (reading-done s t r h)
+
+      go : Dec (sheetSizes labels lent starts .number ≡ 0) → ReadSays
+      go (yes z) = by (right-sizes labels lent starts z) (sheetRead text) (sheet-says text)
+      go (no z) = let h : SheetTables labels lent starts → ⊥ = λ s. z (sizes-right labels lent starts s) in sizeWrong h (reading-two h)
+
+  -- so 0 is answered exactly where the tables are of their sizes and every line is right
+  pub reading-right : leftBehind .answer .number ≡ 0
+      → SheetTables labels lent starts × SheetSays text (done (leftBehind .answer .n, leftBehind .tables .0, leftBehind .tables .1, leftBehind .tables .2) [])
+  reading-right z = go reading-says
+    where
+      number : {r s : Left SheetRead (List ℕ × Lent × List ℕ)} → r ≡ s → r .answer .number ≡ s .answer .number
+      number e = ap (λ (r : Left SheetRead (List ℕ × Lent × List ℕ)). r .answer .number) e
+
+      nothing-left : (x : Section (ℕ × List ℕ × Lent × List ℕ)) (t : ℕ × List ℕ × Lent × List ℕ) (r : List ℕ) → SheetSays text x → x ≡ done t r → SheetSays text (done t [])
+      nothing-left x t r (withoutPlan n labels widths m guards g) e =
+          let q : _≡_ {A = ℕ × List ℕ × Lent × List ℕ} (n, labels, lend widths guards, cleared 128 0) t = cc in
+          subst (λ (u : ℕ × List ℕ × Lent × List ℕ). SheetSays text (done u [])) q (withoutPlan n labels widths m guards g)
+      nothing-left x t r (withPlan n labels widths m guards starts g) e =
+          let q : _≡_ {A = ℕ × List ℕ × Lent × List ℕ} (n, labels, lend widths guards, starts) t = cc in
+          subst (λ (u : ℕ × List ℕ × Lent × List ℕ). SheetSays text (done u [])) q (withPlan n labels widths m guards starts g)
+      nothing-left x t r (pathsForm h) e = let z : _≡_ {A = ℕ} 0 1 = cc in absurd (omega arith)
+      nothing-left x t r (pathsCount n l₁ c h) e = let z : _≡_ {A = ℕ} 0 1 = cc in absurd (omega arith)
+      nothing-left x t r (pathLineWrong n l₁ c a b k u l₂ y h f g) e = let z : _≡_ {A = ℕ} 0 1 = cc in absurd (omega arith)
+      nothing-left x t r (guardsForm n labels widths l₂ p h) e = let z : _≡_ {A = ℕ} 0 1 = cc in absurd (omega arith)
+      nothing-left x t r (guardsCount n labels widths l₂ p m u c h) e = let z : _≡_ {A = ℕ} 0 1 = cc in absurd (omega arith)
+      nothing-left x t r (guardLineWrong n labels widths l₂ p m l₃ c b k u l₄ y h f g) e = let z : _≡_ {A = ℕ} 0 1 = cc in absurd (omega arith)
+      nothing-left x t r (startsForm n labels widths m guards y u g h) e = let z : _≡_ {A = ℕ} 0 1 = cc in absurd (omega arith)
+      nothing-left x t r (startsCount n labels widths m guards l₄ g c u f h) e = let z : _≡_ {A = ℕ} 0 1 = cc in absurd (omega arith)
+      nothing-left x t r (startLineWrong n labels widths m guards k u l₆ y h s g) e = let z : _≡_ {A = ℕ} 0 1 = cc in absurd (omega arith)
+      nothing-left x t r (leftOver n labels widths m guards starts y u g) e = let z : _≡_ {A = ℕ} 0 1 = cc in absurd (omega arith)
+
+      go : ReadSays → SheetTables labels lent starts × SheetSays text (done (leftBehind .answer .n, leftBehind .tables .0, leftBehind .tables .1, leftBehind .tables .2) [])
+      go (sizeWrong h e) = absurd (omega (arith, number e))
+      go (lineWrong s x y h n e) = absurd (n .0 (sym (number e) ∙ z))
+      go (sheetRight s t r h e) =
+          (s,
+          subst (λ (u : Left SheetRead (List ℕ × Lent × List ℕ)). SheetSays text (done (u .answer .n, u .tables .0, u .tables .1, u .tables .2) [])) (sym e)
+          (nothing-left (done t r) t r h refl))
+
+  -- a refused answer: n is 0; with 2 the tables are as they were, with any other number they are cleared
+  pub reading-refused : leftBehind .answer .number ≢ 0
+      → (leftBehind .answer .n ≡ 0)
+      × (((leftBehind .answer .number ≡ 2) × (leftBehind .tables ≡ (labels, lent, starts)))
+      ⊎ ((leftBehind .answer .number ≢ 2) × (leftBehind .tables ≡ (cleared 1024 0, clearedNetwork, cleared 128 0))))
+  reading-refused z = go reading-says
+    where
+      number : {r s : Left SheetRead (List ℕ × Lent × List ℕ)} → r ≡ s → r .answer .number ≡ s .answer .number
+      number e = ap (λ (r : Left SheetRead (List ℕ × Lent × List ℕ)). r .answer .number) e
+
+      paths : {r s : Left SheetRead (List ℕ × Lent × List ℕ)} → r ≡ s → r .answer .n ≡ s .answer .n
+      paths e = ap (λ (r : Left SheetRead (List ℕ × Lent × List ℕ)). r .answer .n) e
+
+      tables : {r s : Left SheetRead (List ℕ × Lent × List ℕ)} → r ≡ s → r .tables ≡ s .tables
+      tables e = ap (λ (r : Left SheetRead (List ℕ × Lent × List ℕ)). r .tables) e
+
+      go : ReadSays
+          → (leftBehind .answer .n ≡ 0)
+          × (((leftBehind .answer .number ≡ 2) × (leftBehind .tables ≡ (labels, lent, starts)))
+          ⊎ ((leftBehind .answer .number ≢ 2) × (leftBehind .tables ≡ (cleared 1024 0, clearedNetwork, cleared 128 0))))
+      go (sizeWrong h e) = (paths e, inl (number e, tables e))
+      go (lineWrong s x y h n e) = (paths e, inr (λ q. n .1 (sym (number e) ∙ q), tables e))
+      go (sheetRight s t r h e) = absurd (z (number e))
