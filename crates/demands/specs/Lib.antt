@@ -29,3 +29,4 @@ pub mod ReadBack
 pub mod Forms
 pub mod OnLines
 pub mod OnReading
+pub mod ReadCells
