@@ -30,3 +30,4 @@ pub mod Forms
 pub mod OnLines
 pub mod OnReading
 pub mod ReadCells
+pub mod OnProgram
