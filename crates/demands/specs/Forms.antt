@@ -81,7 +81,7 @@ all-bytes [] a j l = absurd (omega arith)
 all-bytes (x ∷ w) a zero l = label-byte x (a .0)
 all-bytes (x ∷ w) a (suc j) l = all-bytes w (a .1) j (omega arith)
 
-bytes-all : (w : List ℕ) → ((j : ℕ) → j < length w → LabelByte (at w j)) → All isLabelByte w
+pub bytes-all : (w : List ℕ) → ((j : ℕ) → j < length w → LabelByte (at w j)) → All isLabelByte w
 bytes-all [] h = tt
 bytes-all (x ∷ w) h = (byte-label x (h 0 (omega arith)), bytes-all w (λ j l. h (suc j) (omega arith)))
 

@@ -31,3 +31,4 @@ pub mod OnLines
 pub mod OnReading
 pub mod ReadCells
 pub mod OnProgram
+pub mod LongestSheet

@@ -104,7 +104,7 @@ path-label l w v r e =
     fields (some x y) = x .0
 
 -- The labels: path k's row, and those before it
-run-bytes : (m j : ℕ) (w : List ℕ) → All isLabelByte (drop j w) → length w ≤ j + m → run isLabelByte (bytesFrom m j w) ≡ drop j w
+pub run-bytes : (m j : ℕ) (w : List ℕ) → All isLabelByte (drop j w) → length w ≤ j + m → run isLabelByte (bytesFrom m j w) ≡ drop j w
 unfolding bytesFrom run
 run-bytes zero j w h l = sym (drop-of-length-le w {i = j} (omega arith))
 run-bytes (suc m) j w h l = go (decLt j (length w)) (λ a. run-bytes m (suc j) w a (omega arith))

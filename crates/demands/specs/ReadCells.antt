@@ -28,7 +28,7 @@ pub record PathPut (k : ℕ) (t : List ℕ × List ℕ) (l : List ℕ) (t′ : L
   pub most : v ≤ 64
   pub put : t′ ≡ (putRow (t .0) k w, set (t .1) k v)
 
-path-put : (k : ℕ) (t : List ℕ × List ℕ) (l : List ℕ) (y : Line (List ℕ × List ℕ)) (t′ : List ℕ × List ℕ) (l′ : List ℕ) → PathSays k (t .0) (t .1) l y → y ≡ right t′ l′ → PathPut k t l t′ l′
+pub path-put : (k : ℕ) (t : List ℕ × List ℕ) (l : List ℕ) (y : Line (List ℕ × List ℕ)) (t′ : List ℕ × List ℕ) (l′ : List ℕ) → PathSays k (t .0) (t .1) l y → y ≡ right t′ l′ → PathPut k t l t′ l′
 path-put k t l y t′ l′ (form h) e = let z : _≡_ {A = ℕ} 0 1 = cc in absurd (omega arith)
 path-put k t l y t′ l′ (labelTwice w v r f i h) e = let z : _≡_ {A = ℕ} 0 1 = cc in absurd (omega arith)
 path-put k t l y t′ l′ (width w v r f u h) e = let z : _≡_ {A = ℕ} 0 1 = cc in absurd (omega arith)
@@ -51,7 +51,7 @@ pub record GuardPut (n : ℕ) (labels t l t′ l′ : List ℕ) : Type 0 where
   pub most : g ≤ 32
   pub put : t′ ≡ set (set t (cell i j) g) (cell j i) g
 
-guard-put : (n : ℕ) (labels t l : List ℕ) (y : Line (List ℕ)) (t′ l′ : List ℕ) → GuardSays n labels t l y → y ≡ right t′ l′ → GuardPut n labels t l t′ l′
+pub guard-put : (n : ℕ) (labels t l : List ℕ) (y : Line (List ℕ)) (t′ l′ : List ℕ) → GuardSays n labels t l y → y ≡ right t′ l′ → GuardPut n labels t l t′ l′
 guard-put n labels t l y t′ l′ (form h) e = let z : _≡_ {A = ℕ} 0 1 = cc in absurd (omega arith)
 guard-put n labels t l y t′ l′ (unknown a b g r f h) e = let z : _≡_ {A = ℕ} 0 1 = cc in absurd (omega arith)
 guard-put n labels t l y t′ l′ (itself a b g r f i s u) e = let z : _≡_ {A = ℕ} 0 1 = cc in absurd (omega arith)
@@ -71,7 +71,7 @@ pub record StartPut (labels : List ℕ) (k : ℕ) (t l t′ l′ : List ℕ) : T
   pub most : v ≤ 16384
   pub put : t′ ≡ set t k v
 
-start-put : (labels : List ℕ) (k : ℕ) (t l : List ℕ) (y : Line (List ℕ)) (t′ l′ : List ℕ) → StartSays labels k t l y → y ≡ right t′ l′ → StartPut labels k t l t′ l′
+pub start-put : (labels : List ℕ) (k : ℕ) (t l : List ℕ) (y : Line (List ℕ)) (t′ l′ : List ℕ) → StartSays labels k t l y → y ≡ right t′ l′ → StartPut labels k t l t′ l′
 start-put labels k t l y t′ l′ (form h) e = let z : _≡_ {A = ℕ} 0 1 = cc in absurd (omega arith)
 start-put labels k t l y t′ l′ (other w v r f h) e = let z : _≡_ {A = ℕ} 0 1 = cc in absurd (omega arith)
 start-put labels k t l y t′ l′ (start w v r f h c) e = let z : _≡_ {A = ℕ} 0 1 = cc in absurd (omega arith)
