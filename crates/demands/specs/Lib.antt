@@ -32,3 +32,4 @@ pub mod OnReading
 pub mod ReadCells
 pub mod OnProgram
 pub mod LongestSheet
+pub mod SheetForm

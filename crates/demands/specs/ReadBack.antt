@@ -143,7 +143,7 @@ module _ (labels w : List ℕ) (k : ℕ) (long : length labels ≡ 1024) (l : k 
       zero-plus : (j : ℕ) → 0 + j ≡ j
       zero-plus j = omega arith
 
-  other-label : (i : ℕ) → i < k → labelOf after-put i ≡ labelOf labels i
+  pub other-label : (i : ℕ) → i < k → labelOf after-put i ≡ labelOf labels i
   unfolding labelOf
   other-label i h =
       ap (run isLabelByte)
