@@ -76,7 +76,7 @@ pub record Label (w : List ℕ) : Type 0 where
   pub few : length w ≤ 8
   pub bytes : (j : ℕ) → j < length w → LabelByte (at w j)
 
-all-bytes : (w : List ℕ) → All isLabelByte w → (j : ℕ) → j < length w → LabelByte (at w j)
+pub all-bytes : (w : List ℕ) → All isLabelByte w → (j : ℕ) → j < length w → LabelByte (at w j)
 all-bytes [] a j l = absurd (omega arith)
 all-bytes (x ∷ w) a zero l = label-byte x (a .0)
 all-bytes (x ∷ w) a (suc j) l = all-bytes w (a .1) j (omega arith)

@@ -38,7 +38,7 @@ use Rattle.demands.specs.GuardTrip.{squareOf, square-in, square-row, squ
 use Rattle.demands.specs.SheetTrip.{sheetOf, written-sheet, written-read}
 use Rattle.demands.specs.Longest.{room-enough}
 use Rattle.demands.specs.OnReading.{SheetTables, SheetSays, sizes-right, reading-halt}
-use Rattle.demands.specs.ReadCells.{PastCleared, reading-past, reading-writable}
+use Rattle.demands.specs.ReadCells.{PastCleared, reading-past, reading-writable, same-cells, same-labels, same-guards}
 
 -- packing into a table leaves its cells of index n or more
 packed-past : (rule : Rule) (o : ℕ → ℕ) (t : List ℕ) (n m k : ℕ) → ((i : ℕ) → i < m → o i < n) → n ≤ k → at (packed rule o t m) k ≡ at t k
@@ -46,34 +46,6 @@ unfolding packed
 packed-past rule o t n zero k h l = refl
 packed-past rule o t n (suc m) k h l =
     at-other (packed rule o t m) (o m) (rule (at (packed rule o t m)) o m (o m)) k (λ e. omega (arith, h m (omega arith))) ∙ packed-past rule o t n m k (λ i g. h i (omega arith)) l
-
--- tables that are cleared past n are all kept
-module _ (n : ℕ) (labels : List ℕ) (lent : Lent) (starts : List ℕ) (p : PastCleared n labels lent starts) where
-  same-cells : (table : List ℕ) → length table ≡ 128 → ((k : ℕ) → n ≤ k → at table k ≡ 0) → table ≡ keptCells n table
-  same-cells table long h = cells-is n table table long (λ k l. go k (decLt k n))
-    where
-      go : (k : ℕ) → Dec (k < n) → at table k ≡ front n table k
-      go k (yes l) = sym (front-in n table k l)
-      go k (no l) = h k (omega arith) ∙ sym (front-past n table k (omega arith))
-
-  same-labels : length labels ≡ 1024 → labels ≡ keptLabels n labels
-  same-labels long = labels-is n labels labels long (λ c l. go c (decLt c (8 * n)))
-    where
-      go : (c : ℕ) → Dec (c < 8 * n) → at labels c ≡ front (8 * n) labels c
-      go c (yes l) = sym (front-in (8 * n) labels c l)
-      go c (no l) = p .labelCells c (omega arith) ∙ sym (front-past (8 * n) labels c (omega arith))
-
-  same-guards : length (lent .guards) ≡ 16384 → lent .guards ≡ keptGuards n (lent .guards)
-  unfolding keptGuards
-  same-guards long = tab-is 16384 (squareOf n (lent .guards)) (lent .guards) long (λ c l. go c l (decLt (c / 128) n) (decLt (c % 128) n))
-    where
-      at-cell : (c : ℕ) → c < 16384 → (n ≤ c / 128) ⊎ (n ≤ c % 128) → at (lent .guards) c ≡ 255
-      at-cell c l h = let e : c ≡ cell (c / 128) (c % 128) = omega arith in ap (at (lent .guards)) e ∙ p .guardCells (c / 128) (c % 128) (omega arith) (omega arith) h
-
-      go : (c : ℕ) → c < 16384 → Dec (c / 128 < n) → Dec (c % 128 < n) → at (lent .guards) c ≡ squareOf n (lent .guards) c
-      go c l (yes a) (yes b) = sym (square-in n (lent .guards) c a b)
-      go c l (no a) b = at-cell c l (inl (omega arith)) ∙ sym (square-row n (lent .guards) c (omega arith))
-      go c l (yes a) (no b) = at-cell c l (inr (omega arith)) ∙ sym (square-column n (lent .guards) c (omega arith))
 
 -- what planning leaves is the packing of some order, into the starts as they were
 module _ (n : ℕ) (lent : Lent) (order starts : List ℕ) (seed rounds : ℕ) (p : Plannable n lent order starts seed rounds) where

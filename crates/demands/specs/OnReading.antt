@@ -370,14 +370,18 @@ module _ (text labels : List ℕ) (lent : Lent) (starts : List ℕ) where
     unfolding reading
     reading-on = unless-done (sheetSizes labels lent starts) _ _ (sizes-right labels lent starts s)
 
+    pub reading-is : (t : ℕ × List ℕ × Lent × List ℕ) (r : List ℕ) → sheetRead text ≡ done t r
+        → leftBehind ≡ left (record { number = 0; place = 0; n = t .0 }) (t .1, t .2, t .3)
+    unfolding readOutcome
+    reading-is t r e = reading-on ∙ rw e
+
     pub reading-halt : (x y : ℕ) → SheetSays text (halt x y) → leftBehind ≡ left (record { number = x; place = y; n = 0 }) (cleared 1024 0, clearedNetwork, cleared 128 0)
     unfolding readOutcome
     reading-halt x y h = reading-on ∙ rw (sheet-only text (halt x y) h)
 
     pub reading-done : (t : ℕ × List ℕ × Lent × List ℕ) (r : List ℕ) → SheetSays text (done t r)
         → leftBehind ≡ left (record { number = 0; place = 0; n = t .0 }) (t .1, t .2, t .3)
-    unfolding readOutcome
-    reading-done t r h = reading-on ∙ rw (sheet-only text (done t r) h)
+    reading-done t r h = reading-is t r (sheet-only text (done t r) h)
 
   -- a table of the wrong size, a first line at fault, or a sheet
   pub data ReadSays : Type 0 where

@@ -1,5 +1,5 @@
 -- Demand 1, the reader: the tables of a sheet that is read are within the limits, and what lies past n is cleared. Assumes nothing.
-use Prim.Native.Nat.{ℕ, zero, suc, _+_, _*_, _≤_, _<_}
+use Prim.Native.Nat.{ℕ, suc, _*_, _/_, _%_, _≤_, _<_}
 use mathlib.Core.Path.{_≡_, refl, sym, ap, subst, _∙_}
 use mathlib.Core.Logic.{_≢_, _⊎_, inl, inr}
 use mathlib.Core.List.{List, []}
@@ -13,6 +13,8 @@ use Rattle.rules.specs.Calls.{Left, reading}
 use Rattle.table_laws.specs.Tables.{at-same, at-other, cleared-length, cleared-at}
 use Rattle.sheet_laws.specs.Rows.{put-length, put-past}
 use Rattle.demands.specs.Writable.{Writable}
+use Rattle.demands.specs.Kept.{front, front-in, front-past, keptCells, keptLabels, cells-is, labels-is, tab-is}
+use Rattle.demands.specs.GuardTrip.{squareOf, square-in, square-row, square-column, keptGuards}
 use Rattle.demands.specs.ReadBack.{sheet-read}
 use Rattle.demands.specs.Forms.{PathForm, GuardForm}
 use Rattle.demands.specs.OnLines.{HasLabel, Unknown, Known, PathSays, form, labelTwice, width, fine, GuardSays, unknown, itself, pairTwice, over, StartSays, other, path-says, guard-says, start-says, FirstRight, start, more}
@@ -178,3 +180,31 @@ module _ (text labels : List ℕ) (lent : Lent) (starts : List ℕ) (zero-answer
   -- and what the n paths hold is what the writer accepts
   pub reading-writable : Writable (leftBehind .answer .n) (leftBehind .tables .0) (leftBehind .tables .1) (leftBehind .tables .2)
   reading-writable = sheet-read text _ [] (sheet-only text _ (reading-right text labels lent starts zero-answer .1))
+
+-- tables that are cleared past n are all kept
+module _ (n : ℕ) (labels : List ℕ) (lent : Lent) (starts : List ℕ) (p : PastCleared n labels lent starts) where
+  pub same-cells : (table : List ℕ) → length table ≡ 128 → ((k : ℕ) → n ≤ k → at table k ≡ 0) → table ≡ keptCells n table
+  same-cells table long h = cells-is n table table long (λ k l. go k (decLt k n))
+    where
+      go : (k : ℕ) → Dec (k < n) → at table k ≡ front n table k
+      go k (yes l) = sym (front-in n table k l)
+      go k (no l) = h k (omega arith) ∙ sym (front-past n table k (omega arith))
+
+  pub same-labels : length labels ≡ 1024 → labels ≡ keptLabels n labels
+  same-labels long = labels-is n labels labels long (λ c l. go c (decLt c (8 * n)))
+    where
+      go : (c : ℕ) → Dec (c < 8 * n) → at labels c ≡ front (8 * n) labels c
+      go c (yes l) = sym (front-in (8 * n) labels c l)
+      go c (no l) = p .labelCells c (omega arith) ∙ sym (front-past (8 * n) labels c (omega arith))
+
+  pub same-guards : length (lent .guards) ≡ 16384 → lent .guards ≡ keptGuards n (lent .guards)
+  unfolding keptGuards
+  same-guards long = tab-is 16384 (squareOf n (lent .guards)) (lent .guards) long (λ c l. go c l (decLt (c / 128) n) (decLt (c % 128) n))
+    where
+      at-cell : (c : ℕ) → c < 16384 → (n ≤ c / 128) ⊎ (n ≤ c % 128) → at (lent .guards) c ≡ 255
+      at-cell c l h = let e : c ≡ cell (c / 128) (c % 128) = omega arith in ap (at (lent .guards)) e ∙ p .guardCells (c / 128) (c % 128) (omega arith) (omega arith) h
+
+      go : (c : ℕ) → c < 16384 → Dec (c / 128 < n) → Dec (c % 128 < n) → at (lent .guards) c ≡ squareOf n (lent .guards) c
+      go c l (yes a) (yes b) = sym (square-in n (lent .guards) c a b)
+      go c l (no a) b = at-cell c l (inl (omega arith)) ∙ sym (square-row n (lent .guards) c (omega arith))
+      go c l (yes a) (no b) = at-cell c l (inr (omega arith)) ∙ sym (square-column n (lent .guards) c (omega arith))

@@ -9,24 +9,31 @@ use native.Mathlib.Omega.{arith}
 use native.Mathlib.Nat.{zero-add, add-zero}
 use native.Mathlib.Decide.{decLt, ℕ-discrete}
 use lib.ListN.{length, set, length-set}
+use lib.Seq.{ext-getD}
 use lib.Dec.{ltb, eqb}
 use borrow.Author.Tests.{lt-ltb, le-ltb, ne-eqb}
 use Rattle.rules.specs.declared.SheetRead.{SheetRead}
 use Rattle.rules.specs.Tables.{at, cell, cleared, Lent, lend, clearedNetwork}
 use Rattle.rules.specs.Text.{pathsWord, guardsWord, startsWord}
-use Rattle.rules.specs.Sheet.{putRow, pathStep, guardStep, startStep, Section, done}
+use Rattle.rules.specs.Sheet.{find, putRow, right, Section, done, lines, countLine, pathStep, guardStep, startStep, after, startsPart, guardsPart}
 use Rattle.rules.specs.Writing.{labelOf, hasPlan, joinFrom, countText, pathText, pathsText, startsText}
 use Rattle.rules.specs.Calls.{Left, left, reading}
 use Rattle.table_laws.specs.Count.{each-suc}
 use Rattle.table_laws.specs.Scans.{found-at, found-none}
 use Rattle.table_laws.specs.Tables.{at-same, at-other, cleared-length, cleared-at}
 use Rattle.sheet_laws.specs.Rows.{put-length, put-in}
+use Rattle.sheet_laws.specs.Lines.{guard-any, guard-fine, guards-rest, sheet-done}
+use Rattle.sheet_laws.specs.Writes.{label-short}
+use Rattle.demands.specs.Kept.{cells-none, labels-none}
 use Rattle.demands.specs.SameBytes.{join-same}
 use Rattle.demands.specs.ReadBack.{other-label}
-use Rattle.demands.specs.Forms.{pairLine, lineText}
+use Rattle.demands.specs.Writable.{Writable}
+use Rattle.demands.specs.RoundTrip.{some-byte, found-label, label-all, lines-back, count-trip, paths-back}
+use Rattle.demands.specs.SheetTrip.{starts-trip}
+use Rattle.demands.specs.Forms.{Label, all-bytes, form-guard, pairLine, lineText}
 use Rattle.demands.specs.OnLines.{FirstRight, start, more, path-says, guard-says, start-says}
-use Rattle.demands.specs.OnReading.{SheetTables, SheetSays, PathsRight, GuardsRight, StartsRight, pathsForm, pathsCount, pathLineWrong, guardsForm, guardsCount, guardLineWrong, withoutPlan, startsForm, startsCount, startLineWrong, leftOver, withPlan, reading-right}
-use Rattle.demands.specs.ReadCells.{path-put, GuardPut, guard-put, start-put}
+use Rattle.demands.specs.OnReading.{SheetTables, SheetSays, PathsRight, GuardsRight, StartsRight, pathsForm, pathsCount, pathLineWrong, guardsForm, guardsCount, guardLineWrong, withoutPlan, startsForm, startsCount, startLineWrong, leftOver, withPlan, sheetRead, reading-is, reading-right}
+use Rattle.demands.specs.ReadCells.{path-put, guard-put, start-put, PastCleared, same-cells, same-labels, same-guards}
 use Rattle.demands.specs.LongestSheet.{row-label}
 
 -- m pairs of paths, a k and b k, are the pairs in conflict: each once, in any order and either way round
@@ -338,3 +345,159 @@ sheet-form l x t r (leftOver n labels widths m guards starts y u g) e = let z : 
 pub read-form : (text labels : List ℕ) (lent : Lent) (starts : List ℕ) → reading text labels lent starts .answer .number ≡ 0
     → FormOf text (reading text labels lent starts .answer .n) (reading text labels lent starts .tables .0) (reading text labels lent starts .tables .1) (reading text labels lent starts .tables .2)
 read-form text labels lent starts z = sheet-form text _ _ [] (reading-right text labels lent starts z .1) refl
+
+-- The other way round. The guards of the first k pairs of a list, put down one after the other
+unfoldable filled : List ℕ → (ℕ → ℕ) → (ℕ → ℕ) → ℕ → List ℕ
+filled guards a b zero = cleared 16384 255
+filled guards a b (suc k) =
+    set (set (filled guards a b k) (cell (a k) (b k)) (at guards (cell (a k) (b k)))) (cell (b k) (a k)) (at guards (cell (a k) (b k)))
+
+module _ (n : ℕ) (labels : List ℕ) (lent : Lent) (starts : List ℕ) (w : Writable n labels lent starts) (past : PastCleared n labels lent starts)
+    (m : ℕ) (a b : ℕ → ℕ) (listed : Listed n (lent .guards) m a b) where
+  few : n ≤ 128
+  few = w .network .few
+
+  abbrev guards : List ℕ
+  guards = lent .guards
+
+  abbrev fill : ℕ → List ℕ
+  fill k = filled guards a b k
+
+  fill-long : (k : ℕ) → length (fill k) ≡ 16384
+  unfolding filled
+  fill-long zero = cleared-length 16384 255
+  fill-long (suc k) =
+      length-set (set (fill k) (cell (a k) (b k)) (at guards (cell (a k) (b k)))) (cell (b k) (a k)) (at guards (cell (a k) (b k)))
+      ∙ length-set (fill k) (cell (a k) (b k)) (at guards (cell (a k) (b k))) ∙ fill-long k
+
+  -- a pair that is none of the first k
+  abbrev Names : ℕ → ℕ → ℕ → Type 0
+  Names h u v = ((a h ≡ u) × (b h ≡ v)) ⊎ ((a h ≡ v) × (b h ≡ u))
+
+  fill-none : (k : ℕ) → k ≤ m → (u v : ℕ) → u < 128 → v < 128 → ((h : ℕ) → h < k → Names h u v → ⊥) → at (fill k) (cell u v) ≡ 255
+  unfolding filled
+  fill-none zero l u v x y none = cleared-at 16384 255 (cell u v) (omega arith)
+  fill-none (suc k) l u v x y none =
+      put-other n few (fill k) (a k) (b k) (at guards (cell (a k) (b k))) (fill-long k) (listed .first k (omega arith)) (listed .second k (omega arith)) (listed .apart k (omega arith)) u v x y
+      (λ e. none k (omega arith) (inl (sym (e .0), sym (e .1)))) (λ e. none k (omega arith) (inr (sym (e .1), sym (e .0))))
+      ∙ fill-none k (omega arith) u v x y (λ h g. none h (omega arith))
+
+  -- one of them
+  fill-set : (k : ℕ) → k ≤ m → (u v : ℕ) → u < n → v < n → (h : ℕ) → h < k → Names h u v → at (fill k) (cell u v) ≡ at guards (cell u v)
+  unfolding filled
+  fill-set zero l u v x y h g s = absurd (omega arith)
+  fill-set (suc k) l u v x y h g s = go (which (a k) (b k) u v) (ℕ-discrete h k) (λ f. fill-set k (omega arith) u v x y h f s)
+    where
+      p : a k < n
+      p = listed .first k (omega arith)
+
+      q : b k < n
+      q = listed .second k (omega arith)
+
+      go : Which (a k) (b k) u v → Dec (h ≡ k) → (h < k → at (fill k) (cell u v) ≡ at guards (cell u v))
+          → at (set (set (fill k) (cell (a k) (b k)) (at guards (cell (a k) (b k)))) (cell (b k) (a k)) (at guards (cell (a k) (b k)))) (cell u v) ≡ at guards (cell u v)
+      go (same c d) e ih = rw (c, d) (put-first n few (fill k) (a k) (b k) (at guards (cell (a k) (b k))) (fill-long k) p q (listed .apart k (omega arith)))
+      go (turned c d) e ih =
+          rw (c, d) (put-mirror n few (fill k) (a k) (b k) (at guards (cell (a k) (b k))) (fill-long k) p q (listed .apart k (omega arith)) ∙ w .network .mirrored (a k) (b k) p q)
+      go (neither c d) (no e) ih =
+          put-other n few (fill k) (a k) (b k) (at guards (cell (a k) (b k))) (fill-long k) p q (listed .apart k (omega arith)) u v (omega arith) (omega arith) c d ∙ ih (omega arith)
+      go (neither c d) (yes e) ih = absurd (clash s)
+        where
+          clash : Names h u v → ⊥
+          clash (inl r) = c (sym (r .0) ∙ ap a e, sym (r .1) ∙ ap b e)
+          clash (inr r) = d (sym (r .1) ∙ ap b e, sym (r .0) ∙ ap a e)
+
+  fill-all : fill m ≡ guards
+  fill-all = ext-getD 0 (fill m) guards (fill-long m ∙ sym (w .network .guardsSize)) (λ c l. go c (c / 128) (c % 128) (omega arith) (omega (arith, fill-long m)) (omega arith) (decLt (c / 128) n) (decLt (c % 128) n))
+    where
+      inside : (u v : ℕ) → u < n → v < n → Dec (at guards (cell u v) ≡ 255) → at (fill m) (cell u v) ≡ at guards (cell u v)
+      inside u v x y (no e) = let k = listed .all u v x y e in fill-set m (omega arith) u v x y (k .0) (k .1) (k .2)
+      inside u v x y (yes e) = fill-none m (omega arith) u v (omega (arith, few)) (omega (arith, few)) (λ h g s. clash h g s) ∙ sym e
+        where
+          clash : (h : ℕ) → h < m → Names h u v → ⊥
+          clash h g (inl r) = omega (arith, listed .guard h g, ap (λ (c : ℕ). at guards c) (λ i. cell (r .0 i) (r .1 i)))
+          clash h g (inr r) = omega (arith, listed .guard h g, ap (λ (c : ℕ). at guards c) (λ i. cell (r .0 i) (r .1 i)), w .network .mirrored u v x y)
+
+      outside : (u v : ℕ) → u < 128 → v < 128 → (n ≤ u) ⊎ (n ≤ v) → at (fill m) (cell u v) ≡ at guards (cell u v)
+      outside u v x y o = fill-none m (omega arith) u v x y (λ h g s. clash h g s o) ∙ sym (past .guardCells u v x y o)
+        where
+          clash : (h : ℕ) → h < m → Names h u v → (n ≤ u) ⊎ (n ≤ v) → ⊥
+          clash h g (inl r) (inl o) = omega (arith, listed .first h g, r .0)
+          clash h g (inl r) (inr o) = omega (arith, listed .second h g, r .1)
+          clash h g (inr r) (inl o) = omega (arith, listed .second h g, r .1)
+          clash h g (inr r) (inr o) = omega (arith, listed .first h g, r .0)
+
+      go : (c u v : ℕ) → c ≡ cell u v → u < 128 → v < 128 → Dec (u < n) → Dec (v < n) → at (fill m) c ≡ at guards c
+      go c u v e x y (yes p) (yes q) = rw e (inside u v p q (ℕ-discrete (at guards (cell u v)) 255))
+      go c u v e x y (no p) q = rw e (outside u v x y (inl (omega arith)))
+      go c u v e x y (yes p) (no q) = rw e (outside u v x y (inr (omega arith)))
+
+  -- each guard line is read
+  its-label : (i : ℕ) → i < n → Label (labelOf labels i)
+  its-label i l = record { some = omega (arith, some-byte n labels lent starts w i l); few = label-short labels i; bytes = all-bytes (labelOf labels i) (label-all labels i) }
+
+  its-path : (i : ℕ) → i < n → find labels n (labelOf labels i) ≡ i
+  its-path i l = ap (λ (t : List ℕ). find t n (labelOf labels i)) (same-labels n labels lent starts past (w .labelsSize)) ∙ found-label n labels lent starts w i l
+
+  pair-back : (k : ℕ) → k < m → (l : List ℕ) → guardStep n labels k (fill k) (pairLines labels guards a b k ++ l) ≡ right (fill (suc k)) l
+  unfolding filled
+  pair-back k h l =
+      guard-any n labels k (fill k) (pairLines labels guards a b k ++ l)
+      ∙ guard-fine n labels (fill k) (pairLines labels guards a b k ++ l) (labelOf labels (a k)) (labelOf labels (b k)) (at guards (cell (a k) (b k))) l
+      (form-guard (pairLines labels guards a b k ++ l) (labelOf labels (a k)) (labelOf labels (b k)) (at guards (cell (a k) (b k))) l
+      (record { first = its-label (a k) p; second = its-label (b k) q; number = omega (arith, listed .guard k h); text = refl }))
+      (a k) (b k) (sym (its-path (a k) p)) (sym (its-path (b k) q)) p q (listed .apart k h)
+      (fill-none k (omega arith) (a k) (b k) (omega (arith, few, p)) (omega (arith, few, q)) (λ i g s. listed .once i k g h s)) (listed .guard k h)
+    where
+      p : a k < n
+      p = listed .first k h
+
+      q : b k < n
+      q = listed .second k h
+
+  empty : cleared 16384 255 ≡ fill 0
+  unfolding filled
+  empty = refl
+
+  pairs-back : (top : ℕ) (l : List ℕ) → lines (guardStep n labels) top m 0 (cleared 16384 255) (joinFrom m 0 (pairLines labels guards a b) ++ l) ≡ done guards l
+  pairs-back top l =
+      ap (λ (t : List ℕ). lines (guardStep n labels) top m 0 t (joinFrom m 0 (pairLines labels guards a b) ++ l)) empty
+      ∙ lines-back (guardStep n labels) top m fill (pairLines labels guards a b) pair-back m 0 (omega arith) l
+      ∙ ap (λ (k : ℕ). done (fill k) l) (zero-add m) ∙ ap (λ (t : List ℕ). done t l) fill-all
+
+  -- so the sheet is read, to these tables
+  guards-form-back : m ≤ 2000 → guardsPart n labels (cleared 16384 255) (cleared 128 0) (countText guardsWord m ++ (joinFrom m 0 (pairLines labels guards a b) ++ startsText n labels starts))
+      ≡ done (guards, starts) []
+  unfolding after
+  guards-form-back most =
+      guards-rest n labels (cleared 16384 255) (cleared 128 0) (countText guardsWord m ++ (joinFrom m 0 (pairLines labels guards a b) ++ startsText n labels starts)) m
+      (joinFrom m 0 (pairLines labels guards a b) ++ startsText n labels starts)
+      (count-trip guardsWord m (joinFrom m 0 (pairLines labels guards a b) ++ startsText n labels starts) (omega arith)) most guards (startsText n labels starts)
+      (pairs-back (n + 3) (startsText n labels starts))
+      ∙ rw starts-back-here
+    where
+      starts-back-here : startsPart n (n + m + 3) labels (cleared 128 0) (startsText n labels starts) ≡ done starts []
+      starts-back-here =
+          ap (λ (t : List ℕ). startsPart n (n + m + 3) t (cleared 128 0) (startsText n labels starts)) (same-labels n labels lent starts past (w .labelsSize))
+          ∙ starts-trip n labels lent starts w (n + m + 3)
+          ∙ ap (λ (t : List ℕ). done t []) (sym (same-cells n labels lent starts past starts (w .startsSize) (past .startCells)))
+
+  sheet-form-back : m ≤ 2000 → sheetRead (sheetLines n labels lent starts m a b) ≡ done (n, labels, lent, starts) []
+  unfolding pathsText
+  sheet-form-back most =
+      sheet-done (cleared 1024 0) clearedNetwork (cleared 128 0) ((countText pathsWord n ++ P) ++ R) n (P ++ R)
+      (ap (countLine pathsWord) (append-assoc (countText pathsWord n) P R) ∙ count-trip pathsWord n (P ++ R) (omega (arith, few))) (w .network .some) few labels (lent .widths) R
+      (ap (λ (t : List ℕ × List ℕ). lines pathStep 2 n 0 t (P ++ R)) (λ i. (labels-none labels i, cells-none (lent .widths) i)) ∙ paths-back n labels lent starts w R
+      ∙ sym (λ i. done (same-labels n labels lent starts past (w .labelsSize) i, same-cells n labels lent starts past (lent .widths) (w .network .widthsSize) (past .widthCells) i) R))
+      guards starts [] (guards-form-back most)
+    where
+      P : List ℕ
+      P = joinFrom n 0 (pathText labels (lent .widths))
+
+      R : List ℕ
+      R = countText guardsWord m ++ (joinFrom m 0 (pairLines labels guards a b) ++ startsText n labels starts)
+
+  -- every sheet of that form is read, to the tables that it is a sheet of
+  pub form-read : m ≤ 2000 → (labels′ : List ℕ) (lent′ : Lent) (starts′ : List ℕ) → SheetTables labels′ lent′ starts′
+      → reading (sheetLines n labels lent starts m a b) labels′ lent′ starts′ ≡ left (record { number = 0; place = 0; n = n }) (labels, lent, starts)
+  form-read most labels′ lent′ starts′ sizes = reading-is (sheetLines n labels lent starts m a b) labels′ lent′ starts′ sizes (n, labels, lent, starts) [] (sheet-form-back most)
