@@ -3,14 +3,14 @@
 use Prim.Native.Nat.{ℕ, zero, suc, _+_, _-_, _*_, _/_, _%_, _^_, _≤_, _<_}
 use mathlib.Core.Path.{_≡_, refl, sym, ap, subst, _∙_}
 use mathlib.Core.Logic.{_⊎_, inl, inr}
-use mathlib.Core.Bool.{Bool, true, false, cond, not, _&&_, _||_, true≢false, false≢true}
+use mathlib.Core.Bool.{Bool, true, false, cond, not, _&&_, _||_, false≢true}
 use mathlib.Core.List.{List, [], _∷_, _++_, append-assoc, append-nil}
 use native.Mathlib.Omega.{arith}
 use native.Mathlib.Decide.{decLt}
 use native.Mathlib.Nat.{add-zero, lt-of-lt-of-le, pow-le-pow-right}
-use lib.ListN.{length, getD, take, drop, take-append-drop}
+use lib.ListN.{length, drop, take-append-drop}
 use lib.Dec.{ltb, leb, eqb, lit<}
-use borrow.Author.Tests.{ltb-true, leb-true, leb-false, eqb-true, eqb-false, not-true, le-leb, eq-eqb}
+use borrow.Author.Tests.{ltb-true, leb-true, eqb-true, eqb-false, le-leb, eq-eqb}
 use Rattle.rules.specs.Tables.{at}
 use Rattle.rules.specs.Text.{Parsed, none, some, then, word, space, lineFeed, isDigit, isLabelByte, run, label, isPlain, valueFrom, number, spell, numeral}
 use Rattle.rules.specs.Sheet.{lastField, countLine, pathLine, guardLine}
@@ -97,9 +97,10 @@ label-field l w r = go (ltb 0 (length (run isLabelByte l)) && leb (length (run i
         let q : W ≡ w = cc in
         let d : drop (length W) l ≡ r = cc in
         let h = both _ _ f in
-        subst (λ (v : List ℕ). Label v × (l ≡ v ++ r)) q
-        (record { some = ltb-true 0 (length W) (h .0); few = leb-true (length W) 8 (h .1); bytes = all-bytes W (run-all isLabelByte l) },
-        sym (take-append-drop (length W) l) ∙ ap (λ (v : List ℕ). v ++ drop (length W) l) (sym (run-take isLabelByte l)) ∙ ap (λ (v : List ℕ). W ++ v) d)
+        subst (λ (v : List ℕ). Label v × (l ≡ v ++ r)) q (
+          record { some = ltb-true 0 (length W) (h .0); few = leb-true (length W) 8 (h .1); bytes = all-bytes W (run-all isLabelByte l) },
+          sym (take-append-drop (length W) l) ∙ ap (λ (v : List ℕ). v ++ drop (length W) l) (sym (run-take isLabelByte l)) ∙ ap (λ (v : List ℕ). W ++ v) d,
+        )
     go false f e = let z : _≡_ {A = ℕ} 0 1 = cc in absurd (omega arith)
 
 -- digits after the digits of v, v not 0: they are spelled as they stand
@@ -203,9 +204,10 @@ number-field l v r = go (ltb 0 (length W)) refl (leb (length W) 5) refl (leb (le
     found p q s e =
         let f : valueFrom 0 W ≡ v = cc in
         let d : drop (length W) l ≡ r = cc in
-        let h = spelled-is W (run-all isDigit l) p q s in
-        (omega (arith, h .0),
-        sym (take-append-drop (length W) l) ∙ ap (λ (u : List ℕ). u ++ drop (length W) l) (sym (run-take isDigit l) ∙ h .1 ∙ ap numeral f) ∙ ap (λ (u : List ℕ). numeral v ++ u) d)
+        let h = spelled-is W (run-all isDigit l) p q s in (
+          omega (arith, h .0),
+          sym (take-append-drop (length W) l) ∙ ap (λ (u : List ℕ). u ++ drop (length W) l) (sym (run-take isDigit l) ∙ h .1 ∙ ap numeral f) ∙ ap (λ (u : List ℕ). numeral v ++ u) d,
+        )
 
     go : (a : Bool) → ltb 0 (length W) ≡ a → (b : Bool) → leb (length W) 5 ≡ b → (c : Bool) → leb (length W) 1 ≡ c → (d : Bool) → eqb (at W 0) 48 ≡ d
         → cond (a && b && (c || not d)) (some (valueFrom 0 W) (drop (length W) l)) none ≡ some v r → (v ≤ 99999) × (l ≡ numeral v ++ r)
@@ -246,11 +248,12 @@ last-is l v r e =
     let c = then-some (word lineFeed (b .1)) _ v r (b .3) in
     let f : b .0 ≡ v = cc in
     let d : c .1 ≡ r = cc in
-    let n = number-field (a .1) (b .0) (b .1) (b .2) in
-    (omega (arith, n .0),
-    word-is space l (a .0) (a .1) (a .2)
-    ∙ ap (λ (u : List ℕ). 32 ∷ u) (n .1 ∙ ap (λ (x : ℕ). numeral x ++ b .1) f ∙ ap (λ (u : List ℕ). numeral v ++ u) (word-is lineFeed (b .1) (c .0) (c .1) (c .2) ∙ ap (λ (u : List ℕ). 10 ∷ u) d)
-    ∙ sym (append-assoc (numeral v) lineFeed r)))
+    let n = number-field (a .1) (b .0) (b .1) (b .2) in (
+      omega (arith, n .0),
+      word-is space l (a .0) (a .1) (a .2)
+          ∙ ap (λ (u : List ℕ). 32 ∷ u) (n .1 ∙ ap (λ (x : ℕ). numeral x ++ b .1) f ∙ ap (λ (u : List ℕ). numeral v ++ u) (word-is lineFeed (b .1) (c .0) (c .1) (c .2) ∙ ap (λ (u : List ℕ). 10 ∷ u) d)
+          ∙ sym (append-assoc (numeral v) lineFeed r)),
+    )
 
 pub count-form : (w l : List ℕ) (m : ℕ) (r : List ℕ) → countLine w l ≡ some m r → CountForm w l m r
 unfolding countLine countText

@@ -10,7 +10,7 @@ use native.Mathlib.Decide.{decLt}
 use lib.ListN.{length, take, drop, length-append, length-take, length-drop}
 use lib.Seq.{ext-getD, getD-take, getD-drop}
 use lib.Dec.{ltb, leb, eqb}
-use borrow.Author.Tests.{ltb-true, leb-true, lt-ltb, le-ltb, ne-eqb, eq-eqb}
+use borrow.Author.Tests.{ltb-true, leb-true, lt-ltb, le-ltb, ne-eqb}
 use Rattle.rules.specs.declared.SheetRead.{SheetRead}
 use Rattle.rules.specs.declared.SheetWritten.{SheetWritten}
 use Rattle.rules.specs.Tables.{at, cell, cleared, Lent, lend, labelByte}
@@ -27,14 +27,13 @@ use Rattle.plan_laws.specs.Answers.{unless-done}
 use Rattle.sheet_laws.specs.Rows.{bytes-length, bytes-at, row-same, row-differs}
 use Rattle.sheet_laws.specs.Writes.{digits-few, count-length, path-length, pair-length, guard-none, guard-some}
 use Rattle.demands.specs.Writable.{Writable, clear-write, writing-writable}
-use Rattle.demands.specs.Kept.{tabFrom, tab-length, tab-at, keptCells, keptLabels}
-use Rattle.demands.specs.GuardTrip.{keptNetwork}
-use Rattle.demands.specs.SheetTrip.{sheetOf, written-sheet, written-read}
-use Rattle.demands.specs.Longest.{two-digits, three-digits, four-digits, room-enough}
+use Rattle.demands.specs.Kept.{tabFrom, tab-length, tab-at}
+use Rattle.demands.specs.SheetTrip.{written-sheet, written-read}
+use Rattle.demands.specs.Longest.{two-digits, three-digits, four-digits}
 use Rattle.demands.specs.ReadBack.{run-bytes}
 use Rattle.demands.specs.Forms.{LabelByte, Label, bytes-all, CountForm, PathForm, GuardForm, lineText, pairLine}
 use Rattle.demands.specs.OnLines.{HasLabel, FirstRight, start, more, path-says, guard-says, start-says}
-use Rattle.demands.specs.OnReading.{SheetTables, SheetSays, sizes-right, PathsRight, GuardsRight, StartsRight, pathsForm, pathsCount, pathLineWrong, guardsForm, guardsCount, guardLineWrong, withoutPlan, startsForm, startsCount, startLineWrong, leftOver, withPlan, reading-right}
+use Rattle.demands.specs.OnReading.{SheetTables, SheetSays, sizes-right, GuardsRight, pathsForm, pathsCount, pathLineWrong, guardsForm, guardsCount, guardLineWrong, withoutPlan, startsForm, startsCount, startLineWrong, leftOver, withPlan, reading-right}
 use Rattle.demands.specs.ReadCells.{path-put, guard-put, start-put}
 
 -- How long a line of the form is
@@ -197,7 +196,7 @@ longest-formed k l =
 
 longest-once : (k : ℕ) → k < 128 → labelTwice longestLabels k ≡ false
 unfolding labelTwice
-longest-once k l = rw (longest-row k l) (found-none (isRow longestLabels (longestLabel k)) k (λ i h. differs i h (decLt (i / 16) (k / 16)) ))
+longest-once k l = rw (longest-row k l) (found-none (isRow longestLabels (longestLabel k)) k (λ i h. differs i h (decLt (i / 16) (k / 16))))
   where
     high : (i : ℕ) → i < 128 → labelByte longestLabels i 6 ≡ 65 + i / 16
     high i h = longest-has i h 6 (omega arith) ∙ (unfold longestLabel in refl)

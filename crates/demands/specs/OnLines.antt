@@ -1,10 +1,10 @@
 -- Demand 1, the lines of a sheet: the number that each kind of line is refused with, exactly: "in a line form first, then fields left to
 -- right; 14 precedes 4"; and a section halts at its first line that is not right. Assumes nothing.
-use Prim.Native.Nat.{ℕ, zero, suc, _+_, _*_, _≤_, _<_}
+use Prim.Native.Nat.{ℕ, zero, suc, _+_, _≤_, _<_}
 use mathlib.Core.Path.{_≡_, refl, sym, ap, subst, _∙_}
 use mathlib.Core.Logic.{_≢_, _⊎_, inl, inr}
 use mathlib.Core.Bool.{Bool, true, false, true≢false}
-use mathlib.Core.List.{List, [], _∷_}
+use mathlib.Core.List.{List}
 use native.Mathlib.Omega.{arith}
 use native.Mathlib.Decide.{decLt, ℕ-discrete}
 use native.Mathlib.Nat.{add-zero}
@@ -14,7 +14,7 @@ use Rattle.rules.specs.Scan.{first}
 use Rattle.rules.specs.Text.{Parsed, none, some}
 use Rattle.rules.specs.Sheet.{isRow, find, putRow, Line, wrong, right, Section, halt, done, follow, lines, pathLine, guardLine, pathStep, guardStep, startStep}
 use Rattle.table_laws.specs.Scans.{First, none as nowhere, some as somewhere, first-is, first-none, first-at}
-use Rattle.sheet_laws.specs.Rows.{row-same, row-bytes, row-differs}
+use Rattle.sheet_laws.specs.Rows.{row-same, row-bytes}
 use Rattle.sheet_laws.specs.Lines.{path-ill, path-twice, path-thin, path-wide, path-fine, guard-any, guard-ill, guard-first, guard-second, guard-self, guard-twice, guard-over, guard-fine, start-ill, start-other, start-low, start-high, start-fine}
 use Rattle.demands.specs.Forms.{PathForm, path-form, form-path, GuardForm, guard-form, form-guard}
 

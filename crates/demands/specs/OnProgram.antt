@@ -1,22 +1,20 @@
 -- The plan program: for every sheet that is read it prints that sheet with a valid plan, which is itself read back; for every other input it
 -- prints the refusal of the first line at fault. Assumes nothing.
-use Prim.Native.Nat.{ℕ, zero, suc, _+_, _*_, _/_, _%_, _≤_, _<_}
-use mathlib.Core.Path.{_≡_, refl, sym, ap, subst, _∙_}
-use mathlib.Core.Logic.{_≢_, _⊎_, inl, inr}
-use mathlib.Core.Bool.{Bool, true, false, cond, not}
-use mathlib.Core.List.{List, [], _++_}
+use Prim.Native.Nat.{ℕ, zero, suc, _+_, _≤_, _<_}
+use mathlib.Core.Path.{_≡_, refl, sym, ap, _∙_}
+use mathlib.Core.Logic.{_≢_}
+use mathlib.Core.Bool.{Bool, true, false, not}
+use mathlib.Core.List.{List, _++_}
 use native.Mathlib.Omega.{arith}
-use native.Mathlib.Decide.{decLt}
-use lib.ListN.{length, length-append, length-set, List·getD-eq-default}
+use lib.ListN.{length, length-append}
 use lib.Dec.{eqb}
 use borrow.Author.Tests.{eq-eqb, ne-eqb}
 use Rattle.rules.specs.declared.Planned.{Planned}
 use Rattle.rules.specs.declared.SheetRead.{SheetRead}
-use Rattle.rules.specs.declared.SheetWritten.{SheetWritten}
-use Rattle.rules.specs.Tables.{at, cell, cleared, Lent, lend, clearedNetwork}
-use Rattle.rules.specs.Limits.{Network, Starts}
+use Rattle.rules.specs.Tables.{at, cleared, Lent, lend}
+use Rattle.rules.specs.Limits.{Starts}
 use Rattle.rules.specs.Text.{pathsWord}
-use Rattle.rules.specs.Sheet.{Section, halt, done}
+use Rattle.rules.specs.Sheet.{halt}
 use Rattle.rules.specs.Plan.{Net, netOf, Valid}
 use Rattle.rules.specs.Packing.{Rule, lowest, packed}
 use Rattle.rules.specs.Sides.{isHigh, hasSides, twoSided}
@@ -25,7 +23,7 @@ use Rattle.rules.specs.Writing.{hasPlan, joinFrom, countText, pathText, pathsTe
 use Rattle.rules.specs.Calls.{Left, left, reading, donePlanned, doneImproved, donePlan, planning, writing}
 use Rattle.rules.specs.Program.{refusalText, plannedText, printed}
 use Rattle.table_laws.specs.Scans.{found-at}
-use Rattle.table_laws.specs.Tables.{at-same, at-other, cleared-length, cleared-at}
+use Rattle.table_laws.specs.Tables.{at-other, cleared-length}
 use Rattle.plan_laws.specs.Arranged.{arranged-order, arranged-length}
 use Rattle.plan_laws.specs.Sided.{sided-length, sided-order}
 use Rattle.plan_laws.specs.Runs.{runAfter, run-packable}
@@ -33,9 +31,9 @@ use Rattle.plan_laws.specs.Answers.{Packable, Plannable, plannable-planning}
 use Rattle.sheet_laws.specs.Writes.{count-length}
 use Rattle.demands.specs.OnPacking.{packedStarts, plan-valid, plan-starts}
 use Rattle.demands.specs.Writable.{Writable}
-use Rattle.demands.specs.Kept.{front, front-in, front-past, keptCells, keptLabels, cells-is, labels-is, tab-is}
-use Rattle.demands.specs.GuardTrip.{squareOf, square-in, square-row, square-column, keptGuards, keptNetwork}
-use Rattle.demands.specs.SheetTrip.{sheetOf, written-sheet, written-read}
+use Rattle.demands.specs.Kept.{keptCells, keptLabels}
+use Rattle.demands.specs.GuardTrip.{keptGuards}
+use Rattle.demands.specs.SheetTrip.{written-sheet, written-read}
 use Rattle.demands.specs.Longest.{room-enough}
 use Rattle.demands.specs.OnReading.{SheetTables, SheetSays, sizes-right, reading-halt}
 use Rattle.demands.specs.ReadCells.{PastCleared, reading-past, reading-writable, same-cells, same-labels, same-guards}

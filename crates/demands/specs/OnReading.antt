@@ -1,34 +1,31 @@
 -- Demand 1, the reader: the answer's number and place are those of the first line at fault; 0 exactly where every line is right; and what
 -- the tables then hold. "The reader: 2 first, then the first line at fault." Assumes nothing.
-use Prim.Native.Nat.{ℕ, zero, suc, _+_, _*_, _≤_, _<_}
+use Prim.Native.Nat.{ℕ, _+_, _≤_, _<_}
 use mathlib.Core.Path.{_≡_, refl, sym, ap, subst, _∙_}
 use mathlib.Core.Logic.{_≢_, _⊎_, inl, inr}
 use mathlib.Core.Bool.{Bool, true, false, not}
 use mathlib.Core.List.{List, [], _∷_, _++_}
 use native.Mathlib.Omega.{arith}
 use native.Mathlib.Decide.{decLt, ℕ-discrete}
-use native.Mathlib.Nat.{add-zero}
 use lib.Dec.{eqb}
 use borrow.Author.Tests.{eq-eqb}
-use lib.ListN.{length, drop, set, length-set, length-append}
+use lib.ListN.{length, length-append}
 use Rattle.rules.specs.declared.Fault.{Fault}
 use Rattle.rules.specs.declared.SheetRead.{SheetRead}
-use Rattle.rules.specs.Tables.{at, cell, cleared, Lent, lend, clearedNetwork}
+use Rattle.rules.specs.Tables.{at, cleared, Lent, lend, clearedNetwork}
 use Rattle.rules.specs.Text.{Parsed, none, some, then, run, label, pathsWord, guardsWord, startsWord}
 use Rattle.rules.specs.Sheet.{Line, wrong, right, Section, halt, done, lines, countLine, pathLine, guardLine, pathMeans, guardMeans, startMeans, pathStep, guardStep, startStep, counted, after, ended, startsPart, guardsPart, sheetFrom}
 use Rattle.rules.specs.Writing.{countText}
 use Rattle.rules.specs.Numbers.{fault, noFault, refuseIf, _orElse_, sizeFault, networkSizes, labelSizes, sheetSizes}
 use Rattle.rules.specs.Calls.{Left, left, readOutcome, reading}
-use Rattle.table_laws.specs.Tables.{at-same, at-other, cleared-length, cleared-at}
 use Rattle.table_laws.specs.Faults.{refuse-bad, refuse-not, or-first, or-second, or-clear, or-none, size-good, size-clear}
 use Rattle.table_laws.specs.Limits.{clear-of}
 use Rattle.table_laws.specs.Chains.{sizes-clear}
 use Rattle.plan_laws.specs.Answers.{unless-done, unless-refused}
-use Rattle.sheet_laws.specs.Lines.{starts-none, starts-ill, starts-count, starts-halt, starts-left, starts-done, guards-ill, guards-many, guards-halt, guards-rest, sheet-ill, sheet-few, sheet-many, sheet-halt, sheet-later, sheet-done}
-use Rattle.sheet_laws.specs.Rows.{put-length, put-past}
+use Rattle.sheet_laws.specs.Lines.{starts-none, starts-ill, starts-count, starts-halt, guards-ill, guards-many, guards-halt, guards-rest, sheet-ill, sheet-few, sheet-many, sheet-halt, sheet-later, sheet-done}
 use Rattle.sheet_laws.specs.Writes.{count-length}
 use Rattle.demands.specs.Forms.{CountForm, count-form, form-count}
-use Rattle.demands.specs.OnLines.{PathSays, form, labelTwice, width, fine, GuardSays, unknown, itself, pairTwice, over, StartSays, other, path-says, guard-says, start-says, FirstRight, start, more, LinesSay, stops, ends, lines-say, lines-only}
+use Rattle.demands.specs.OnLines.{PathSays, form, labelTwice, width, fine, GuardSays, unknown, itself, pairTwice, over, StartSays, other, path-says, guard-says, start-says, FirstRight, start, LinesSay, stops, ends, lines-say, lines-only}
 
 -- no count of the section stands here: "a missing line is 11", too
 abbrev pub NoCount : List ℕ → List ℕ → Type 0
@@ -431,10 +428,11 @@ module _ (text labels : List ℕ) (lent : Lent) (starts : List ℕ) where
       go : ReadSays → SheetTables labels lent starts × SheetSays text (done (leftBehind .answer .n, leftBehind .tables .0, leftBehind .tables .1, leftBehind .tables .2) [])
       go (sizeWrong h e) = absurd (omega (arith, number e))
       go (lineWrong s x y h n e) = absurd (n .0 (sym (number e) ∙ z))
-      go (sheetRight s t r h e) =
-          (s,
-          subst (λ (u : Left SheetRead (List ℕ × Lent × List ℕ)). SheetSays text (done (u .answer .n, u .tables .0, u .tables .1, u .tables .2) [])) (sym e)
-          (nothing-left (done t r) t r h refl))
+      go (sheetRight s t r h e) = (
+        s,
+        subst (λ (u : Left SheetRead (List ℕ × Lent × List ℕ)). SheetSays text (done (u .answer .n, u .tables .0, u .tables .1, u .tables .2) [])) (sym e)
+            (nothing-left (done t r) t r h refl),
+      )
 
   -- a refused answer: n is 0; with 2 the tables are as they were, with any other number they are cleared
   pub reading-refused : leftBehind .answer .number ≢ 0

@@ -5,20 +5,20 @@ use mathlib.Core.Logic.{_≢_, _⊎_, inl, inr}
 use mathlib.Core.List.{List, []}
 use native.Mathlib.Omega.{arith}
 use native.Mathlib.Decide.{decLt}
-use lib.ListN.{length, set, length-set, List·getD-eq-default}
+use lib.ListN.{length, set, List·getD-eq-default}
 use Rattle.rules.specs.declared.SheetRead.{SheetRead}
-use Rattle.rules.specs.Tables.{at, cell, cleared, Lent, lend, clearedNetwork}
-use Rattle.rules.specs.Sheet.{putRow, Line, wrong, right, Section, halt, done, pathStep, guardStep, startStep}
+use Rattle.rules.specs.Tables.{at, cell, cleared, Lent, lend}
+use Rattle.rules.specs.Sheet.{putRow, Line, right, Section, done, pathStep, guardStep, startStep}
 use Rattle.rules.specs.Calls.{Left, reading}
-use Rattle.table_laws.specs.Tables.{at-same, at-other, cleared-length, cleared-at}
-use Rattle.sheet_laws.specs.Rows.{put-length, put-past}
+use Rattle.table_laws.specs.Tables.{at-other, cleared-length, cleared-at}
+use Rattle.sheet_laws.specs.Rows.{put-past}
 use Rattle.demands.specs.Writable.{Writable}
 use Rattle.demands.specs.Kept.{front, front-in, front-past, keptCells, keptLabels, cells-is, labels-is, tab-is}
 use Rattle.demands.specs.GuardTrip.{squareOf, square-in, square-row, square-column, keptGuards}
 use Rattle.demands.specs.ReadBack.{sheet-read}
 use Rattle.demands.specs.Forms.{PathForm, GuardForm}
 use Rattle.demands.specs.OnLines.{HasLabel, Unknown, Known, PathSays, form, labelTwice, width, fine, GuardSays, unknown, itself, pairTwice, over, StartSays, other, path-says, guard-says, start-says, FirstRight, start, more}
-use Rattle.demands.specs.OnReading.{PathsRight, GuardsRight, StartsRight, SheetSays, pathsForm, pathsCount, pathLineWrong, guardsForm, guardsCount, guardLineWrong, withoutPlan, startsForm, startsCount, startLineWrong, leftOver, withPlan, sheetRead, sheet-only, reading-right}
+use Rattle.demands.specs.OnReading.{SheetSays, pathsForm, pathsCount, pathLineWrong, guardsForm, guardsCount, guardLineWrong, withoutPlan, startsForm, startsCount, startLineWrong, leftOver, withPlan, sheet-only, reading-right}
 
 -- a line that is right: its fields, and what it puts down
 pub record PathPut (k : ℕ) (t : List ℕ × List ℕ) (l : List ℕ) (t′ : List ℕ × List ℕ) (l′ : List ℕ) : Type 0 where

@@ -1,10 +1,10 @@
 -- Demand 1, the reader: a text is read exactly when it is the sheet of the tables that are then left, as the writer puts it down, save that the
 -- guard lines may come in any order and either way round. Assumes nothing.
-use Prim.Native.Nat.{ℕ, zero, suc, _+_, _*_, _/_, _%_, _≤_, _<_}
+use Prim.Native.Nat.{ℕ, zero, suc, _+_, _/_, _%_, _≤_, _<_}
 use mathlib.Core.Path.{_≡_, refl, sym, ap, subst, _∙_}
 use mathlib.Core.Logic.{_≢_, _⊎_, inl, inr}
-use mathlib.Core.Bool.{Bool, true, false, cond, not}
-use mathlib.Core.List.{List, [], _∷_, _++_, append-assoc, append-nil}
+use mathlib.Core.Bool.{cond, not}
+use mathlib.Core.List.{List, [], _++_, append-assoc, append-nil}
 use native.Mathlib.Omega.{arith}
 use native.Mathlib.Nat.{zero-add, add-zero}
 use native.Mathlib.Decide.{decLt, ℕ-discrete}
@@ -12,12 +12,11 @@ use lib.ListN.{length, set, length-set}
 use lib.Seq.{ext-getD}
 use lib.Dec.{ltb, eqb}
 use borrow.Author.Tests.{lt-ltb, le-ltb, ne-eqb}
-use Rattle.rules.specs.declared.SheetRead.{SheetRead}
 use Rattle.rules.specs.Tables.{at, cell, cleared, Lent, lend, clearedNetwork}
 use Rattle.rules.specs.Text.{pathsWord, guardsWord, startsWord}
 use Rattle.rules.specs.Sheet.{find, putRow, right, Section, done, lines, countLine, pathStep, guardStep, startStep, after, startsPart, guardsPart}
 use Rattle.rules.specs.Writing.{labelOf, hasPlan, joinFrom, countText, pathText, pathsText, startsText}
-use Rattle.rules.specs.Calls.{Left, left, reading}
+use Rattle.rules.specs.Calls.{left, reading}
 use Rattle.table_laws.specs.Count.{each-suc}
 use Rattle.table_laws.specs.Scans.{found-at, found-none}
 use Rattle.table_laws.specs.Tables.{at-same, at-other, cleared-length, cleared-at}
@@ -32,8 +31,8 @@ use Rattle.demands.specs.RoundTrip.{some-byte, found-label, label-all, l
 use Rattle.demands.specs.SheetTrip.{starts-trip}
 use Rattle.demands.specs.Forms.{Label, all-bytes, form-guard, pairLine, lineText}
 use Rattle.demands.specs.OnLines.{FirstRight, start, more, path-says, guard-says, start-says}
-use Rattle.demands.specs.OnReading.{SheetTables, SheetSays, PathsRight, GuardsRight, StartsRight, pathsForm, pathsCount, pathLineWrong, guardsForm, guardsCount, guardLineWrong, withoutPlan, startsForm, startsCount, startLineWrong, leftOver, withPlan, sheetRead, reading-is, reading-right}
-use Rattle.demands.specs.ReadCells.{path-put, guard-put, start-put, PastCleared, same-cells, same-labels, same-guards}
+use Rattle.demands.specs.OnReading.{SheetTables, SheetSays, GuardsRight, pathsForm, pathsCount, pathLineWrong, guardsForm, guardsCount, guardLineWrong, withoutPlan, startsForm, startsCount, startLineWrong, leftOver, withPlan, sheetRead, reading-is, reading-right}
+use Rattle.demands.specs.ReadCells.{path-put, guard-put, start-put, PastCleared, same-cells, same-labels}
 use Rattle.demands.specs.LongestSheet.{row-label}
 
 -- m pairs of paths, a k and b k, are the pairs in conflict: each once, in any order and either way round

@@ -6,7 +6,7 @@ use mathlib.Core.Path.{_≡_, refl}
 use mathlib.Core.List.{List, [], _∷_, _++_}
 use lib.ListN.{take, drop}
 use Rattle.rules.specs.declared.SheetRead.{SheetRead}
-use Rattle.rules.specs.Tables.{at, cell, cleared, Lent, lend}
+use Rattle.rules.specs.Tables.{cleared, Lent, lend}
 use Rattle.rules.specs.Scan.{first, found, firstRow, foundPair, largest, least, sum}
 use Rattle.rules.specs.Plan.{highest}
 use Rattle.rules.specs.Packing.{placed, reach, lowest, packed, height}
