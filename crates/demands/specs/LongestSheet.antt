@@ -17,7 +17,7 @@ use Rattle.rules.specs.Tables.{at, cell, cleared, Lent, lend, labelByte}
 use Rattle.rules.specs.Limits.{Network}
 use Rattle.rules.specs.Scan.{sum}
 use Rattle.rules.specs.Text.{pathsWord, guardsWord, startsWord, isLabelByte, run, spell, numeral}
-use Rattle.rules.specs.Sheet.{isRow, bytesFrom, pathStep, guardStep, startStep, Section, done}
+use Rattle.rules.specs.Sheet.{isRow, bytesFrom, pathStep, guardStep, startStep}
 use Rattle.rules.specs.Writing.{labelOf, badLabel, labelTwice, isPair, pairs, hasPlan, joinFrom, countText, pathText, guardText, pathsText, guardsText, startsText, sheetText}
 use Rattle.rules.specs.Numbers.{writeFault}
 use Rattle.rules.specs.Calls.{Left, reading, writing}
@@ -33,7 +33,7 @@ use Rattle.demands.specs.Longest.{two-digits, three-digits, four-digits}
 use Rattle.demands.specs.ReadBack.{run-bytes}
 use Rattle.demands.specs.Forms.{LabelByte, Label, bytes-all, CountForm, PathForm, GuardForm, lineText, pairLine}
 use Rattle.demands.specs.OnLines.{HasLabel, FirstRight, start, more, path-says, guard-says, start-says}
-use Rattle.demands.specs.OnReading.{SheetTables, SheetSays, sizes-right, GuardsRight, pathsForm, pathsCount, pathLineWrong, guardsForm, guardsCount, guardLineWrong, withoutPlan, startsForm, startsCount, startLineWrong, leftOver, withPlan, reading-right}
+use Rattle.demands.specs.OnReading.{SheetTables, SheetRight, sizes-right, GuardsRight, withoutPlan, withPlan, reading-right}
 use Rattle.demands.specs.ReadCells.{path-put, guard-put, start-put}
 
 -- How long a line of the form is
@@ -92,9 +92,9 @@ guarded-short l n labels widths m guards l₄ g =
       guards-short n labels _ (g .l₃) m guards l₄ (g .each),
     )
 
-sheet-short : (l : List ℕ) (x : Section (ℕ × List ℕ × Lent × List ℕ)) (t : ℕ × List ℕ × Lent × List ℕ) (r : List ℕ) → SheetSays l x → x ≡ done t r → length l ≤ 45489
-sheet-short l x t r (withoutPlan n labels widths m guards g) e = omega (arith, guarded-short l n labels widths m guards [] g, g .paths .most, g .most)
-sheet-short l x t r (withPlan n labels widths m guards starts s) e =
+sheet-short : (l : List ℕ) (t : ℕ × List ℕ × Lent × List ℕ) → SheetRight l t → length l ≤ 45489
+sheet-short l t (withoutPlan n labels widths m guards g) = omega (arith, guarded-short l n labels widths m guards [] g, g .paths .most, g .most)
+sheet-short l t (withPlan n labels widths m guards starts s) =
     let g = s .guarded in
     omega (
       arith,
@@ -105,20 +105,10 @@ sheet-short l x t r (withPlan n labels widths m guards starts s) e =
       three-digits n (omega (arith, g .paths .most)),
       starts-short labels _ (s .l₅) n starts [] (s .each),
     )
-sheet-short l x t r (pathsForm h) e = let z : _≡_ {A = ℕ} 0 1 = cc in absurd (omega arith)
-sheet-short l x t r (pathsCount n l₁ c h) e = let z : _≡_ {A = ℕ} 0 1 = cc in absurd (omega arith)
-sheet-short l x t r (pathLineWrong n l₁ c a b k u l₂ y h f g) e = let z : _≡_ {A = ℕ} 0 1 = cc in absurd (omega arith)
-sheet-short l x t r (guardsForm n labels widths l₂ p h) e = let z : _≡_ {A = ℕ} 0 1 = cc in absurd (omega arith)
-sheet-short l x t r (guardsCount n labels widths l₂ p m u c h) e = let z : _≡_ {A = ℕ} 0 1 = cc in absurd (omega arith)
-sheet-short l x t r (guardLineWrong n labels widths l₂ p m l₃ c b k u l₄ y h f g) e = let z : _≡_ {A = ℕ} 0 1 = cc in absurd (omega arith)
-sheet-short l x t r (startsForm n labels widths m guards y u g h) e = let z : _≡_ {A = ℕ} 0 1 = cc in absurd (omega arith)
-sheet-short l x t r (startsCount n labels widths m guards l₄ g c u f h) e = let z : _≡_ {A = ℕ} 0 1 = cc in absurd (omega arith)
-sheet-short l x t r (startLineWrong n labels widths m guards k u l₆ y h s g) e = let z : _≡_ {A = ℕ} 0 1 = cc in absurd (omega arith)
-sheet-short l x t r (leftOver n labels widths m guards starts y u g) e = let z : _≡_ {A = ℕ} 0 1 = cc in absurd (omega arith)
 
 -- no longer text is read
 pub read-most : (text labels : List ℕ) (lent : Lent) (starts : List ℕ) → reading text labels lent starts .answer .number ≡ 0 → length text ≤ 45489
-read-most text labels lent starts z = sheet-short text _ _ [] (reading-right text labels lent starts z .1) refl
+read-most text labels lent starts z = sheet-short text _ (reading-right text labels lent starts z .1)
 
 -- The longest sheet: 128 paths of 64 slots with labels of eight bytes, each of the first 20 in conflict with each of the next 100, with a
 -- guard of 32, and each at 16,384

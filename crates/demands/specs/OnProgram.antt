@@ -14,7 +14,6 @@ use Rattle.rules.specs.declared.SheetRead.{SheetRead}
 use Rattle.rules.specs.Tables.{at, cleared, Lent, lend}
 use Rattle.rules.specs.Limits.{Starts}
 use Rattle.rules.specs.Text.{pathsWord}
-use Rattle.rules.specs.Sheet.{halt}
 use Rattle.rules.specs.Plan.{Net, netOf, Valid}
 use Rattle.rules.specs.Packing.{Rule, lowest, packed}
 use Rattle.rules.specs.Sides.{isHigh, hasSides, twoSided}
@@ -35,7 +34,7 @@ use Rattle.demands.specs.Kept.{keptCells, keptLabels}
 use Rattle.demands.specs.GuardTrip.{keptGuards}
 use Rattle.demands.specs.SheetTrip.{written-sheet, written-read}
 use Rattle.demands.specs.Longest.{room-enough}
-use Rattle.demands.specs.OnReading.{SheetTables, SheetSays, sizes-right, reading-halt}
+use Rattle.demands.specs.OnReading.{SheetTables, SheetWrong, sizes-right, reading-halt}
 use Rattle.demands.specs.ReadCells.{PastCleared, reading-past, reading-writable, same-cells, same-labels, same-guards}
 
 -- packing into a table leaves its cells of index n or more
@@ -105,7 +104,7 @@ pub printed-refused : (input : List ℕ) → inputRead input .answer .number ≢
 unfolding printed
 printed-refused input z = rw (ne-eqb (inputRead input .answer .number) 0 z)
 
-pub printed-halt : (input : List ℕ) (x y : ℕ) → x ≢ 0 → SheetSays input (halt x y) → printed input ≡ refusalText x y
+pub printed-halt : (input : List ℕ) (x y : ℕ) → x ≢ 0 → SheetWrong input x y → printed input ≡ refusalText x y
 printed-halt input x y z h =
     let e = reading-halt input (cleared 1024 0) (lend (cleared 128 0) (cleared 16384 0)) (cleared 128 0) own-tables x y h in
     let number = ap (λ (r : Left SheetRead (List ℕ × Lent × List ℕ)). r .answer .number) e in

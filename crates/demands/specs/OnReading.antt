@@ -56,32 +56,40 @@ pub record StartsRight (l : List ℕ) (n : ℕ) (labels widths : List ℕ) (m : 
   pub count : CountForm startsWord l₄ n l₅
   pub each : FirstRight (startStep labels) (cleared 128 0) l₅ k starts l₆
 
--- What a whole sheet comes to: the number and the line of its first line at fault, or its tables. Line 1 is the paths' count, n + 2 the guards',
--- n + m + 3 the starts'
-pub data SheetSays (l : List ℕ) : Section (ℕ × List ℕ × Lent × List ℕ) → Type 0 where
-  pathsForm : NoCount pathsWord l → SheetSays l (halt 11 1)
-  pathsCount : (n : ℕ) (r : List ℕ) → CountForm pathsWord l n r → (n < 1) ⊎ (128 < n) → SheetSays l (halt 1 1)
+-- What a whole sheet comes to. Its first line at fault, as the number and the line: line 1 is the paths' count, n + 2 the guards', n + m + 3 the
+-- starts'
+pub data SheetWrong (l : List ℕ) : ℕ → ℕ → Type 0 where
+  pathsForm : NoCount pathsWord l → SheetWrong l 11 1
+  pathsCount : (n : ℕ) (r : List ℕ) → CountForm pathsWord l n r → (n < 1) ⊎ (128 < n) → SheetWrong l 1 1
   pathLineWrong : (n : ℕ) (l₁ : List ℕ) → CountForm pathsWord l n l₁ → 1 ≤ n → n ≤ 128
       → (k : ℕ) (t : List ℕ × List ℕ) (l₂ : List ℕ) (x : ℕ) → k < n → FirstRight pathStep (cleared 1024 0, cleared 128 0) l₁ k t l₂
-      → pathStep k t l₂ ≡ wrong x → SheetSays l (halt x (2 + k))
-  guardsForm : (n : ℕ) (labels widths l₂ : List ℕ) → PathsRight l n labels widths l₂ → NoCount guardsWord l₂ → SheetSays l (halt 11 (n + 2))
+      → pathStep k t l₂ ≡ wrong x → SheetWrong l x (2 + k)
+  guardsForm : (n : ℕ) (labels widths l₂ : List ℕ) → PathsRight l n labels widths l₂ → NoCount guardsWord l₂ → SheetWrong l 11 (n + 2)
   guardsCount : (n : ℕ) (labels widths l₂ : List ℕ) → PathsRight l n labels widths l₂ → (m : ℕ) (r : List ℕ) → CountForm guardsWord l₂ m r → 2000 < m
-      → SheetSays l (halt 1 (n + 2))
+      → SheetWrong l 1 (n + 2)
   guardLineWrong : (n : ℕ) (labels widths l₂ : List ℕ) → PathsRight l n labels widths l₂ → (m : ℕ) (l₃ : List ℕ) → CountForm guardsWord l₂ m l₃ → m ≤ 2000
       → (k : ℕ) (t l₄ : List ℕ) (x : ℕ) → k < m → FirstRight (guardStep n labels) (cleared 16384 255) l₃ k t l₄
-      → guardStep n labels k t l₄ ≡ wrong x → SheetSays l (halt x (n + 3 + k))
-  withoutPlan : (n : ℕ) (labels widths : List ℕ) (m : ℕ) (guards : List ℕ) → GuardsRight l n labels widths m guards []
-      → SheetSays l (done (n, labels, lend widths guards, cleared 128 0) [])
+      → guardStep n labels k t l₄ ≡ wrong x → SheetWrong l x (n + 3 + k)
   startsForm : (n : ℕ) (labels widths : List ℕ) (m : ℕ) (guards : List ℕ) (y : ℕ) (r : List ℕ) → GuardsRight l n labels widths m guards (y ∷ r)
-      → NoCount startsWord (y ∷ r) → SheetSays l (halt 11 (n + m + 3))
+      → NoCount startsWord (y ∷ r) → SheetWrong l 11 (n + m + 3)
   startsCount : (n : ℕ) (labels widths : List ℕ) (m : ℕ) (guards l₄ : List ℕ) → GuardsRight l n labels widths m guards l₄
-      → (c : ℕ) (r : List ℕ) → CountForm startsWord l₄ c r → c ≢ n → SheetSays l (halt 1 (n + m + 3))
+      → (c : ℕ) (r : List ℕ) → CountForm startsWord l₄ c r → c ≢ n → SheetWrong l 1 (n + m + 3)
   startLineWrong : (n : ℕ) (labels widths : List ℕ) (m : ℕ) (guards : List ℕ) (k : ℕ) (t l₆ : List ℕ) (x : ℕ) → k < n → StartsRight l n labels widths m guards k t l₆
-      → startStep labels k t l₆ ≡ wrong x → SheetSays l (halt x (n + m + 3 + 1 + k))
+      → startStep labels k t l₆ ≡ wrong x → SheetWrong l x (n + m + 3 + 1 + k)
   leftOver : (n : ℕ) (labels widths : List ℕ) (m : ℕ) (guards starts : List ℕ) (y : ℕ) (r : List ℕ) → StartsRight l n labels widths m guards n starts (y ∷ r)
-      → SheetSays l (halt 11 (n + m + 3 + 1 + n))
+      → SheetWrong l 11 (n + m + 3 + 1 + n)
+
+-- or no line is at fault: the number of paths, and what the tables then hold
+pub data SheetRight (l : List ℕ) : ℕ × List ℕ × Lent × List ℕ → Type 0 where
+  withoutPlan : (n : ℕ) (labels widths : List ℕ) (m : ℕ) (guards : List ℕ) → GuardsRight l n labels widths m guards []
+      → SheetRight l (n, labels, lend widths guards, cleared 128 0)
   withPlan : (n : ℕ) (labels widths : List ℕ) (m : ℕ) (guards starts : List ℕ) → StartsRight l n labels widths m guards n starts []
-      → SheetSays l (done (n, labels, lend widths guards, starts) [])
+      → SheetRight l (n, labels, lend widths guards, starts)
+
+-- one of the two
+pub data SheetSays (l : List ℕ) : Type 0 where
+  wrongAt : (x y : ℕ) → SheetWrong l x y → SheetSays l
+  rightly : (t : ℕ × List ℕ × Lent × List ℕ) → SheetRight l t → SheetSays l
 
 -- a count stands in front of a text, or none does
 count-says : (word l : List ℕ) → ((m : ℕ) × (r : List ℕ) × (countLine word l ≡ some m r)) ⊎ (countLine word l ≡ none)
@@ -153,103 +161,103 @@ module _ (l : List ℕ) where
         go (y ∷ u) e = omega arith
 
   -- each of these is what the sheet comes to
-  pub sheet-only : (x : Section (ℕ × List ℕ × Lent × List ℕ)) → SheetSays l x → sheetRead l ≡ x
+  pub wrong-only : (x y : ℕ) → SheetWrong l x y → sheetRead l ≡ halt x y
   unfolding ended
-  sheet-only x (pathsForm h) = sheet-ill (cleared 1024 0) clearedNetwork (cleared 128 0) l (none-count pathsWord l h)
-  sheet-only x (pathsCount n r c (inl a)) = sheet-few (cleared 1024 0) clearedNetwork (cleared 128 0) l n r (form-count pathsWord l n r c) a
-  sheet-only x (pathsCount n r c (inr a)) = sheet-many (cleared 1024 0) clearedNetwork (cleared 128 0) l n r (form-count pathsWord l n r c) a
-  sheet-only x (pathLineWrong n l₁ c a b k t l₂ y h f e) =
-      sheet-halt (cleared 1024 0) clearedNetwork (cleared 128 0) l n l₁ (form-count pathsWord l n l₁ c) a b y (2 + k)
-      (lines-only pathStep 2 (cleared 1024 0, cleared 128 0) l₁ n _ (stops k t l₂ y h f e))
-  sheet-only x (guardsForm n labels widths l₂ p h) =
+  wrong-only x y (pathsForm h) = sheet-ill (cleared 1024 0) clearedNetwork (cleared 128 0) l (none-count pathsWord l h)
+  wrong-only x y (pathsCount n r c (inl a)) = sheet-few (cleared 1024 0) clearedNetwork (cleared 128 0) l n r (form-count pathsWord l n r c) a
+  wrong-only x y (pathsCount n r c (inr a)) = sheet-many (cleared 1024 0) clearedNetwork (cleared 128 0) l n r (form-count pathsWord l n r c) a
+  wrong-only x y (pathLineWrong n l₁ c a b k t l₂ z h f e) =
+      sheet-halt (cleared 1024 0) clearedNetwork (cleared 128 0) l n l₁ (form-count pathsWord l n l₁ c) a b z (2 + k)
+      (lines-only pathStep 2 (cleared 1024 0, cleared 128 0) l₁ n _ (stops k t l₂ z h f e))
+  wrong-only x y (guardsForm n labels widths l₂ p h) =
       rest-halts n labels widths l₂ p 11 (n + 2) (guards-ill n labels (cleared 16384 255) (cleared 128 0) l₂ (none-count guardsWord l₂ h))
-  sheet-only x (guardsCount n labels widths l₂ p m r c h) =
+  wrong-only x y (guardsCount n labels widths l₂ p m r c h) =
       rest-halts n labels widths l₂ p 1 (n + 2) (guards-many n labels (cleared 16384 255) (cleared 128 0) l₂ m r (form-count guardsWord l₂ m r c) h)
-  sheet-only x (guardLineWrong n labels widths l₂ p m l₃ c b k t l₄ y h f e) =
-      rest-halts n labels widths l₂ p y (n + 3 + k)
-      (guards-halt n labels (cleared 16384 255) (cleared 128 0) l₂ m l₃ (form-count guardsWord l₂ m l₃ c) b y (n + 3 + k)
-      (lines-only (guardStep n labels) (n + 3) (cleared 16384 255) l₃ m _ (stops k t l₄ y h f e)))
-  sheet-only x (withoutPlan n labels widths m guards g) =
-      starts-done-sheet n labels widths m guards [] g (cleared 128 0) [] (starts-none n (n + m + 3) labels (cleared 128 0) [] 0 (omega arith))
-  sheet-only x (startsForm n labels widths m guards y r g h) =
-      starts-halt-sheet n labels widths m guards (y ∷ r) g 11 (n + m + 3) (starts-ill n (n + m + 3) labels (cleared 128 0) (y ∷ r) 0 (omega arith) (none-count startsWord (y ∷ r) h))
-  sheet-only x (startsCount n labels widths m guards [] g c r f h) = absurd (omega (arith, ap length (f .text), length-append (countText startsWord c) r, count-length startsWord c))
-  sheet-only x (startsCount n labels widths m guards (y ∷ u) g c r f h) =
-      starts-halt-sheet n labels widths m guards (y ∷ u) g 1 (n + m + 3) (starts-count n (n + m + 3) labels (cleared 128 0) (y ∷ u) 0 (omega arith) c r (form-count startsWord (y ∷ u) c r f) h)
-  sheet-only x (startLineWrong n labels widths m guards k t l₆ y h s e) =
-      starts-halt-sheet n labels widths m guards (s .l₄) (s .guarded) y (n + m + 3 + 1 + k)
-      (starts-halt n (n + m + 3) labels (cleared 128 0) (s .l₄) 0 (some-text n labels widths m guards k t l₆ s) n (s .l₅) (counted-is n labels widths m guards k t l₆ s) refl y (n + m + 3 + 1 + k)
-      (lines-only (startStep labels) (n + m + 3 + 1) (cleared 128 0) (s .l₅) n _ (stops k t l₆ y h (s .each) e)))
-  sheet-only x (leftOver n labels widths m guards starts y r s) =
+  wrong-only x y (guardLineWrong n labels widths l₂ p m l₃ c b k t l₄ z h f e) =
+      rest-halts n labels widths l₂ p z (n + 3 + k)
+      (guards-halt n labels (cleared 16384 255) (cleared 128 0) l₂ m l₃ (form-count guardsWord l₂ m l₃ c) b z (n + 3 + k)
+      (lines-only (guardStep n labels) (n + 3) (cleared 16384 255) l₃ m _ (stops k t l₄ z h f e)))
+  wrong-only x y (startsForm n labels widths m guards z r g h) =
+      starts-halt-sheet n labels widths m guards (z ∷ r) g 11 (n + m + 3) (starts-ill n (n + m + 3) labels (cleared 128 0) (z ∷ r) 0 (omega arith) (none-count startsWord (z ∷ r) h))
+  wrong-only x y (startsCount n labels widths m guards [] g c r f h) = absurd (omega (arith, ap length (f .text), length-append (countText startsWord c) r, count-length startsWord c))
+  wrong-only x y (startsCount n labels widths m guards (z ∷ u) g c r f h) =
+      starts-halt-sheet n labels widths m guards (z ∷ u) g 1 (n + m + 3) (starts-count n (n + m + 3) labels (cleared 128 0) (z ∷ u) 0 (omega arith) c r (form-count startsWord (z ∷ u) c r f) h)
+  wrong-only x y (startLineWrong n labels widths m guards k t l₆ z h s e) =
+      starts-halt-sheet n labels widths m guards (s .l₄) (s .guarded) z (n + m + 3 + 1 + k)
+      (starts-halt n (n + m + 3) labels (cleared 128 0) (s .l₄) 0 (some-text n labels widths m guards k t l₆ s) n (s .l₅) (counted-is n labels widths m guards k t l₆ s) refl z (n + m + 3 + 1 + k)
+      (lines-only (startStep labels) (n + m + 3 + 1) (cleared 128 0) (s .l₅) n _ (stops k t l₆ z h (s .each) e)))
+  wrong-only x y (leftOver n labels widths m guards starts z r s) =
       starts-halt-sheet n labels widths m guards (s .l₄) (s .guarded) 11 (n + m + 3 + 1 + n)
-      (starts-end n (n + m + 3) labels starts (s .l₄) (s .l₅) (y ∷ r) (counted-is n labels widths m guards n starts (y ∷ r) s) (some-text n labels widths m guards n starts (y ∷ r) s)
-      (lines-only (startStep labels) (n + m + 3 + 1) (cleared 128 0) (s .l₅) n _ (ends starts (y ∷ r) (s .each))))
-  sheet-only x (withPlan n labels widths m guards starts s) =
+      (starts-end n (n + m + 3) labels starts (s .l₄) (s .l₅) (z ∷ r) (counted-is n labels widths m guards n starts (z ∷ r) s) (some-text n labels widths m guards n starts (z ∷ r) s)
+      (lines-only (startStep labels) (n + m + 3 + 1) (cleared 128 0) (s .l₅) n _ (ends starts (z ∷ r) (s .each))))
+
+  pub right-only : (t : ℕ × List ℕ × Lent × List ℕ) → SheetRight l t → sheetRead l ≡ done t []
+  unfolding ended
+  right-only t (withoutPlan n labels widths m guards g) =
+      starts-done-sheet n labels widths m guards [] g (cleared 128 0) [] (starts-none n (n + m + 3) labels (cleared 128 0) [] 0 (omega arith))
+  right-only t (withPlan n labels widths m guards starts s) =
       starts-done-sheet n labels widths m guards (s .l₄) (s .guarded) starts []
       (starts-end n (n + m + 3) labels starts (s .l₄) (s .l₅) [] (counted-is n labels widths m guards n starts [] s) (some-text n labels widths m guards n starts [] s)
       (lines-only (startStep labels) (n + m + 3 + 1) (cleared 128 0) (s .l₅) n _ (ends starts [] (s .each))))
 
   -- and one of them holds
-  one-says : (x : Section (ℕ × List ℕ × Lent × List ℕ)) × SheetSays l x
-  one-says = paths (count-says pathsWord l)
+  pub sheet-says : SheetSays l
+  sheet-says = paths (count-says pathsWord l)
     where
-      starts-one : (n : ℕ) (labels widths : List ℕ) (m : ℕ) (guards l₄ : List ℕ) → GuardsRight l n labels widths m guards l₄ → (x : Section (ℕ × List ℕ × Lent × List ℕ)) × SheetSays l x
-      starts-one n labels widths m guards [] g = (_, withoutPlan n labels widths m guards g)
+      starts-one : (n : ℕ) (labels widths : List ℕ) (m : ℕ) (guards l₄ : List ℕ) → GuardsRight l n labels widths m guards l₄ → SheetSays l
+      starts-one n labels widths m guards [] g = rightly _ (withoutPlan n labels widths m guards g)
       starts-one n labels widths m guards (y ∷ u) g = counted-one (count-says startsWord (y ∷ u))
         where
           each-one : (l₅ : List ℕ) → CountForm startsWord (y ∷ u) n l₅ → (x : Section (List ℕ)) → LinesSay (startStep labels) 0 n (cleared 128 0) l₅ x
-              → (x : Section (ℕ × List ℕ × Lent × List ℕ)) × SheetSays l x
-          each-one l₅ c x (stops k t l₆ z h f e) = (_, startLineWrong n labels widths m guards k t l₆ z h (record { l₄ = y ∷ u; l₅ = l₅; guarded = g; count = c; each = f }) e)
-          each-one l₅ c x (ends t [] f) = (_, withPlan n labels widths m guards t (record { l₄ = y ∷ u; l₅ = l₅; guarded = g; count = c; each = f }))
-          each-one l₅ c x (ends t (z ∷ r) f) = (_, leftOver n labels widths m guards t z r (record { l₄ = y ∷ u; l₅ = l₅; guarded = g; count = c; each = f }))
+              → SheetSays l
+          each-one l₅ c x (stops k t l₆ z h f e) = wrongAt _ _ (startLineWrong n labels widths m guards k t l₆ z h (record { l₄ = y ∷ u; l₅ = l₅; guarded = g; count = c; each = f }) e)
+          each-one l₅ c x (ends t [] f) = rightly _ (withPlan n labels widths m guards t (record { l₄ = y ∷ u; l₅ = l₅; guarded = g; count = c; each = f }))
+          each-one l₅ c x (ends t (z ∷ r) f) = wrongAt _ _ (leftOver n labels widths m guards t z r (record { l₄ = y ∷ u; l₅ = l₅; guarded = g; count = c; each = f }))
 
-          counted-one : ((c : ℕ) × (r : List ℕ) × (countLine startsWord (y ∷ u) ≡ some c r)) ⊎ (countLine startsWord (y ∷ u) ≡ none) → (x : Section (ℕ × List ℕ × Lent × List ℕ)) × SheetSays l x
-          counted-one (inr e) = (_, startsForm n labels widths m guards y u g (no-count startsWord (y ∷ u) e))
+          counted-one : ((c : ℕ) × (r : List ℕ) × (countLine startsWord (y ∷ u) ≡ some c r)) ⊎ (countLine startsWord (y ∷ u) ≡ none) → SheetSays l
+          counted-one (inr e) = wrongAt _ _ (startsForm n labels widths m guards y u g (no-count startsWord (y ∷ u) e))
           counted-one (inl c) = by (ℕ-discrete (c .0) n)
             where
               f : CountForm startsWord (y ∷ u) (c .0) (c .1)
               f = count-form startsWord (y ∷ u) (c .0) (c .1) (c .2)
 
-              by : Dec (c .0 ≡ n) → (x : Section (ℕ × List ℕ × Lent × List ℕ)) × SheetSays l x
-              by (no h) = (_, startsCount n labels widths m guards (y ∷ u) g (c .0) (c .1) f h)
+              by : Dec (c .0 ≡ n) → SheetSays l
+              by (no h) = wrongAt _ _ (startsCount n labels widths m guards (y ∷ u) g (c .0) (c .1) f h)
               by (yes q) = each-one (c .1) (subst (λ k. CountForm startsWord (y ∷ u) k (c .1)) q f) _ (lines-say (startStep labels) 0 (cleared 128 0) (c .1) n)
 
       guards-one : (n : ℕ) (labels widths l₂ : List ℕ) → PathsRight l n labels widths l₂ → ((c : ℕ) × (r : List ℕ) × (countLine guardsWord l₂ ≡ some c r)) ⊎ (countLine guardsWord l₂ ≡ none)
-          → (x : Section (ℕ × List ℕ × Lent × List ℕ)) × SheetSays l x
-      guards-one n labels widths l₂ p (inr e) = (_, guardsForm n labels widths l₂ p (no-count guardsWord l₂ e))
+          → SheetSays l
+      guards-one n labels widths l₂ p (inr e) = wrongAt _ _ (guardsForm n labels widths l₂ p (no-count guardsWord l₂ e))
       guards-one n labels widths l₂ p (inl c) = by (decLt 2000 (c .0))
         where
           f : CountForm guardsWord l₂ (c .0) (c .1)
           f = count-form guardsWord l₂ (c .0) (c .1) (c .2)
 
-          each-one : c .0 ≤ 2000 → (x : Section (List ℕ)) → LinesSay (guardStep n labels) 0 (c .0) (cleared 16384 255) (c .1) x → (x : Section (ℕ × List ℕ × Lent × List ℕ)) × SheetSays l x
-          each-one b x (stops k t l₄ z h g e) = (_, guardLineWrong n labels widths l₂ p (c .0) (c .1) f b k t l₄ z h g e)
+          each-one : c .0 ≤ 2000 → (x : Section (List ℕ)) → LinesSay (guardStep n labels) 0 (c .0) (cleared 16384 255) (c .1) x → SheetSays l
+          each-one b x (stops k t l₄ z h g e) = wrongAt _ _ (guardLineWrong n labels widths l₂ p (c .0) (c .1) f b k t l₄ z h g e)
           each-one b x (ends t l₄ g) = starts-one n labels widths (c .0) t l₄ (record { l₂ = l₂; l₃ = c .1; paths = p; count = f; most = b; each = g })
 
-          by : Dec (2000 < c .0) → (x : Section (ℕ × List ℕ × Lent × List ℕ)) × SheetSays l x
-          by (yes h) = (_, guardsCount n labels widths l₂ p (c .0) (c .1) f h)
+          by : Dec (2000 < c .0) → SheetSays l
+          by (yes h) = wrongAt _ _ (guardsCount n labels widths l₂ p (c .0) (c .1) f h)
           by (no h) = each-one (omega arith) _ (lines-say (guardStep n labels) 0 (cleared 16384 255) (c .1) (c .0))
 
-      paths : ((c : ℕ) × (r : List ℕ) × (countLine pathsWord l ≡ some c r)) ⊎ (countLine pathsWord l ≡ none) → (x : Section (ℕ × List ℕ × Lent × List ℕ)) × SheetSays l x
-      paths (inr e) = (_, pathsForm (no-count pathsWord l e))
+      paths : ((c : ℕ) × (r : List ℕ) × (countLine pathsWord l ≡ some c r)) ⊎ (countLine pathsWord l ≡ none) → SheetSays l
+      paths (inr e) = wrongAt _ _ (pathsForm (no-count pathsWord l e))
       paths (inl c) = by (decLt (c .0) 1) (decLt 128 (c .0))
         where
           f : CountForm pathsWord l (c .0) (c .1)
           f = count-form pathsWord l (c .0) (c .1) (c .2)
 
           each-one : 1 ≤ c .0 → c .0 ≤ 128 → (x : Section (List ℕ × List ℕ)) → LinesSay pathStep 0 (c .0) (cleared 1024 0, cleared 128 0) (c .1) x
-              → (x : Section (ℕ × List ℕ × Lent × List ℕ)) × SheetSays l x
-          each-one a b x (stops k t l₂ z h g e) = (_, pathLineWrong (c .0) (c .1) f a b k t l₂ z h g e)
+              → SheetSays l
+          each-one a b x (stops k t l₂ z h g e) = wrongAt _ _ (pathLineWrong (c .0) (c .1) f a b k t l₂ z h g e)
           each-one a b x (ends t l₂ g) =
               guards-one (c .0) (t .0) (t .1) l₂ (record { l₁ = c .1; count = f; least = a; most = b; each = g }) (count-says guardsWord l₂)
 
-          by : Dec (c .0 < 1) → Dec (128 < c .0) → (x : Section (ℕ × List ℕ × Lent × List ℕ)) × SheetSays l x
-          by (yes h) k = (_, pathsCount (c .0) (c .1) f (inl h))
-          by (no h) (yes k) = (_, pathsCount (c .0) (c .1) f (inr k))
+          by : Dec (c .0 < 1) → Dec (128 < c .0) → SheetSays l
+          by (yes h) k = wrongAt _ _ (pathsCount (c .0) (c .1) f (inl h))
+          by (no h) (yes k) = wrongAt _ _ (pathsCount (c .0) (c .1) f (inr k))
           by (no h) (no k) = each-one (omega arith) (omega arith) _ (lines-say pathStep 0 (cleared 1024 0, cleared 128 0) (c .1) (c .0))
-
-  pub sheet-says : SheetSays l (sheetRead l)
-  sheet-says = let y = one-says in subst (SheetSays l) (sym (sheet-only (y .0) (y .1))) (y .1)
 
 -- A line that is missing is of wrong form
 pub missing-line : (k n : ℕ) (labels widths table : List ℕ)
@@ -284,22 +292,17 @@ start-named labels k starts l y x (other w v r f h) e = let q : 13 ≡ x = cc in
 start-named labels k starts l y x (start w v r f h c) e = let q : 7 ≡ x = cc in (λ z. omega arith, λ z. omega arith)
 start-named labels k starts l y x (fine w v r f h a b) e = let z : _≡_ {A = ℕ} 0 1 = cc in absurd (omega arith)
 
-sheet-named : (l : List ℕ) (s : Section (ℕ × List ℕ × Lent × List ℕ)) (x y : ℕ) → SheetSays l s → s ≡ halt x y → Named x
-sheet-named l s x y (pathsForm h) e = let q : 11 ≡ x = cc in (λ z. omega arith, λ z. omega arith)
-sheet-named l s x y (pathsCount n r c h) e = let q : 1 ≡ x = cc in (λ z. omega arith, λ z. omega arith)
-sheet-named l s x y (pathLineWrong n l₁ c a b k t l₂ u h f g) e =
-    let q : u ≡ x = cc in subst Named q (path-named k (t .0) (t .1) l₂ _ u (path-says k (t .0) (t .1) l₂) g)
-sheet-named l s x y (guardsForm n labels widths l₂ p h) e = let q : 11 ≡ x = cc in (λ z. omega arith, λ z. omega arith)
-sheet-named l s x y (guardsCount n labels widths l₂ p m r c h) e = let q : 1 ≡ x = cc in (λ z. omega arith, λ z. omega arith)
-sheet-named l s x y (guardLineWrong n labels widths l₂ p m l₃ c b k t l₄ u h f g) e =
-    let q : u ≡ x = cc in subst Named q (guard-named n labels t l₄ _ u (guard-says n labels k t l₄) g)
-sheet-named l s x y (withoutPlan n labels widths m guards g) e = let z : _≡_ {A = ℕ} 0 1 = cc in absurd (omega arith)
-sheet-named l s x y (startsForm n labels widths m guards u r g h) e = let q : 11 ≡ x = cc in (λ z. omega arith, λ z. omega arith)
-sheet-named l s x y (startsCount n labels widths m guards l₄ g c r f h) e = let q : 1 ≡ x = cc in (λ z. omega arith, λ z. omega arith)
-sheet-named l s x y (startLineWrong n labels widths m guards k t l₆ u h r g) e =
-    let q : u ≡ x = cc in subst Named q (start-named labels k t l₆ _ u (start-says labels k t l₆) g)
-sheet-named l s x y (leftOver n labels widths m guards starts u r g) e = let q : 11 ≡ x = cc in (λ z. omega arith, λ z. omega arith)
-sheet-named l s x y (withPlan n labels widths m guards starts g) e = let z : _≡_ {A = ℕ} 0 1 = cc in absurd (omega arith)
+sheet-named : (l : List ℕ) (x y : ℕ) → SheetWrong l x y → Named x
+sheet-named l x y (pathsForm h) = (λ z. omega arith, λ z. omega arith)
+sheet-named l x y (pathsCount n r c h) = (λ z. omega arith, λ z. omega arith)
+sheet-named l x y (pathLineWrong n l₁ c a b k t l₂ u h f g) = path-named k (t .0) (t .1) l₂ _ u (path-says k (t .0) (t .1) l₂) g
+sheet-named l x y (guardsForm n labels widths l₂ p h) = (λ z. omega arith, λ z. omega arith)
+sheet-named l x y (guardsCount n labels widths l₂ p m r c h) = (λ z. omega arith, λ z. omega arith)
+sheet-named l x y (guardLineWrong n labels widths l₂ p m l₃ c b k t l₄ u h f g) = guard-named n labels t l₄ _ u (guard-says n labels k t l₄) g
+sheet-named l x y (startsForm n labels widths m guards u r g h) = (λ z. omega arith, λ z. omega arith)
+sheet-named l x y (startsCount n labels widths m guards l₄ g c r f h) = (λ z. omega arith, λ z. omega arith)
+sheet-named l x y (startLineWrong n labels widths m guards k t l₆ u h r g) = start-named labels k t l₆ _ u (start-says labels k t l₆) g
+sheet-named l x y (leftOver n labels widths m guards starts u r g) = (λ z. omega arith, λ z. omega arith)
 
 -- The call. Its tables are of their sizes
 pub record SheetTables (labels : List ℕ) (lent : Lent) (starts : List ℕ) : Type 0 where
@@ -372,67 +375,46 @@ module _ (text labels : List ℕ) (lent : Lent) (starts : List ℕ) where
     unfolding readOutcome
     reading-is t r e = reading-on ∙ rw e
 
-    pub reading-halt : (x y : ℕ) → SheetSays text (halt x y) → leftBehind ≡ left (record { number = x; place = y; n = 0 }) (cleared 1024 0, clearedNetwork, cleared 128 0)
+    pub reading-halt : (x y : ℕ) → SheetWrong text x y → leftBehind ≡ left (record { number = x; place = y; n = 0 }) (cleared 1024 0, clearedNetwork, cleared 128 0)
     unfolding readOutcome
-    reading-halt x y h = reading-on ∙ rw (sheet-only text (halt x y) h)
+    reading-halt x y h = reading-on ∙ rw (wrong-only text x y h)
 
-    pub reading-done : (t : ℕ × List ℕ × Lent × List ℕ) (r : List ℕ) → SheetSays text (done t r)
+    pub reading-done : (t : ℕ × List ℕ × Lent × List ℕ) → SheetRight text t
         → leftBehind ≡ left (record { number = 0; place = 0; n = t .0 }) (t .1, t .2, t .3)
-    reading-done t r h = reading-is t r (sheet-only text (done t r) h)
+    reading-done t h = reading-is t [] (right-only text t h)
 
   -- a table of the wrong size, a first line at fault, or a sheet
   pub data ReadSays : Type 0 where
     sizeWrong : (SheetTables labels lent starts → ⊥) → leftBehind ≡ left (record { number = 2; place = 0; n = 0 }) (labels, lent, starts) → ReadSays
-    lineWrong : SheetTables labels lent starts → (x y : ℕ) → SheetSays text (halt x y) → Named x
+    lineWrong : SheetTables labels lent starts → (x y : ℕ) → SheetWrong text x y → Named x
         → leftBehind ≡ left (record { number = x; place = y; n = 0 }) (cleared 1024 0, clearedNetwork, cleared 128 0) → ReadSays
-    sheetRight : SheetTables labels lent starts → (t : ℕ × List ℕ × Lent × List ℕ) (r : List ℕ) → SheetSays text (done t r)
+    sheetRight : SheetTables labels lent starts → (t : ℕ × List ℕ × Lent × List ℕ) → SheetRight text t
         → leftBehind ≡ left (record { number = 0; place = 0; n = t .0 }) (t .1, t .2, t .3) → ReadSays
 
   pub reading-says : ReadSays
   reading-says = go (ℕ-discrete (sheetSizes labels lent starts .number) 0)
     where
-      by : SheetTables labels lent starts → (x : Section (ℕ × List ℕ × Lent × List ℕ)) → SheetSays text x → ReadSays
-      by s (halt x y) h = lineWrong s x y h (sheet-named text (halt x y) x y h refl) (reading-halt s x y h)
-      by s (done t r) h = sheetRight s t r h (reading-done s t r h)
+      by : SheetTables labels lent starts → SheetSays text → ReadSays
+      by s (wrongAt x y h) = lineWrong s x y h (sheet-named text x y h) (reading-halt s x y h)
+      by s (rightly t h) = sheetRight s t h (reading-done s t h)
 
       go : Dec (sheetSizes labels lent starts .number ≡ 0) → ReadSays
-      go (yes z) = by (right-sizes labels lent starts z) (sheetRead text) (sheet-says text)
+      go (yes z) = by (right-sizes labels lent starts z) (sheet-says text)
       go (no z) = let h : SheetTables labels lent starts → ⊥ = λ s. z (sizes-right labels lent starts s) in sizeWrong h (reading-two h)
 
   -- so 0 is answered exactly where the tables are of their sizes and every line is right
   pub reading-right : leftBehind .answer .number ≡ 0
-      → SheetTables labels lent starts × SheetSays text (done (leftBehind .answer .n, leftBehind .tables .0, leftBehind .tables .1, leftBehind .tables .2) [])
+      → SheetTables labels lent starts × SheetRight text (leftBehind .answer .n, leftBehind .tables .0, leftBehind .tables .1, leftBehind .tables .2)
   reading-right z = go reading-says
     where
       number : {r s : Left SheetRead (List ℕ × Lent × List ℕ)} → r ≡ s → r .answer .number ≡ s .answer .number
       number e = ap (λ (r : Left SheetRead (List ℕ × Lent × List ℕ)). r .answer .number) e
 
-      nothing-left : (x : Section (ℕ × List ℕ × Lent × List ℕ)) (t : ℕ × List ℕ × Lent × List ℕ) (r : List ℕ) → SheetSays text x → x ≡ done t r → SheetSays text (done t [])
-      nothing-left x t r (withoutPlan n labels widths m guards g) e =
-          let q : _≡_ {A = ℕ × List ℕ × Lent × List ℕ} (n, labels, lend widths guards, cleared 128 0) t = cc in
-          subst (λ (u : ℕ × List ℕ × Lent × List ℕ). SheetSays text (done u [])) q (withoutPlan n labels widths m guards g)
-      nothing-left x t r (withPlan n labels widths m guards starts g) e =
-          let q : _≡_ {A = ℕ × List ℕ × Lent × List ℕ} (n, labels, lend widths guards, starts) t = cc in
-          subst (λ (u : ℕ × List ℕ × Lent × List ℕ). SheetSays text (done u [])) q (withPlan n labels widths m guards starts g)
-      nothing-left x t r (pathsForm h) e = let z : _≡_ {A = ℕ} 0 1 = cc in absurd (omega arith)
-      nothing-left x t r (pathsCount n l₁ c h) e = let z : _≡_ {A = ℕ} 0 1 = cc in absurd (omega arith)
-      nothing-left x t r (pathLineWrong n l₁ c a b k u l₂ y h f g) e = let z : _≡_ {A = ℕ} 0 1 = cc in absurd (omega arith)
-      nothing-left x t r (guardsForm n labels widths l₂ p h) e = let z : _≡_ {A = ℕ} 0 1 = cc in absurd (omega arith)
-      nothing-left x t r (guardsCount n labels widths l₂ p m u c h) e = let z : _≡_ {A = ℕ} 0 1 = cc in absurd (omega arith)
-      nothing-left x t r (guardLineWrong n labels widths l₂ p m l₃ c b k u l₄ y h f g) e = let z : _≡_ {A = ℕ} 0 1 = cc in absurd (omega arith)
-      nothing-left x t r (startsForm n labels widths m guards y u g h) e = let z : _≡_ {A = ℕ} 0 1 = cc in absurd (omega arith)
-      nothing-left x t r (startsCount n labels widths m guards l₄ g c u f h) e = let z : _≡_ {A = ℕ} 0 1 = cc in absurd (omega arith)
-      nothing-left x t r (startLineWrong n labels widths m guards k u l₆ y h s g) e = let z : _≡_ {A = ℕ} 0 1 = cc in absurd (omega arith)
-      nothing-left x t r (leftOver n labels widths m guards starts y u g) e = let z : _≡_ {A = ℕ} 0 1 = cc in absurd (omega arith)
-
-      go : ReadSays → SheetTables labels lent starts × SheetSays text (done (leftBehind .answer .n, leftBehind .tables .0, leftBehind .tables .1, leftBehind .tables .2) [])
+      go : ReadSays → SheetTables labels lent starts × SheetRight text (leftBehind .answer .n, leftBehind .tables .0, leftBehind .tables .1, leftBehind .tables .2)
       go (sizeWrong h e) = absurd (omega (arith, number e))
       go (lineWrong s x y h n e) = absurd (n .0 (sym (number e) ∙ z))
-      go (sheetRight s t r h e) = (
-        s,
-        subst (λ (u : Left SheetRead (List ℕ × Lent × List ℕ)). SheetSays text (done (u .answer .n, u .tables .0, u .tables .1, u .tables .2) [])) (sym e)
-            (nothing-left (done t r) t r h refl),
-      )
+      go (sheetRight s t h e) =
+          (s, subst (λ (u : Left SheetRead (List ℕ × Lent × List ℕ)). SheetRight text (u .answer .n, u .tables .0, u .tables .1, u .tables .2)) (sym e) h)
 
   -- a refused answer: n is 0; with 2 the tables are as they were, with any other number they are cleared
   pub reading-refused : leftBehind .answer .number ≢ 0
@@ -456,4 +438,4 @@ module _ (text labels : List ℕ) (lent : Lent) (starts : List ℕ) where
           ⊎ ((leftBehind .answer .number ≢ 2) × (leftBehind .tables ≡ (cleared 1024 0, clearedNetwork, cleared 128 0))))
       go (sizeWrong h e) = (paths e, inl (number e, tables e))
       go (lineWrong s x y h n e) = (paths e, inr (λ q. n .1 (sym (number e) ∙ q), tables e))
-      go (sheetRight s t r h e) = absurd (z (number e))
+      go (sheetRight s t h e) = absurd (z (number e))

@@ -1,14 +1,14 @@
 -- Demand 1, the reader: the tables of a sheet that is read are within the limits, and what lies past n is cleared. Assumes nothing.
 use Prim.Native.Nat.{ℕ, suc, _*_, _/_, _%_, _≤_, _<_}
-use mathlib.Core.Path.{_≡_, refl, sym, ap, subst, _∙_}
+use mathlib.Core.Path.{_≡_, sym, ap, subst, _∙_}
 use mathlib.Core.Logic.{_≢_, _⊎_, inl, inr}
 use mathlib.Core.List.{List, []}
 use native.Mathlib.Omega.{arith}
 use native.Mathlib.Decide.{decLt}
 use lib.ListN.{length, set, List·getD-eq-default}
 use Rattle.rules.specs.declared.SheetRead.{SheetRead}
-use Rattle.rules.specs.Tables.{at, cell, cleared, Lent, lend}
-use Rattle.rules.specs.Sheet.{putRow, Line, right, Section, done, pathStep, guardStep, startStep}
+use Rattle.rules.specs.Tables.{at, cell, cleared, Lent}
+use Rattle.rules.specs.Sheet.{putRow, Line, right, pathStep, guardStep, startStep}
 use Rattle.rules.specs.Calls.{Left, reading}
 use Rattle.table_laws.specs.Tables.{at-other, cleared-length, cleared-at}
 use Rattle.sheet_laws.specs.Rows.{put-past}
@@ -18,7 +18,7 @@ use Rattle.demands.specs.GuardTrip.{squareOf, square-in, square-row, squ
 use Rattle.demands.specs.ReadBack.{sheet-read}
 use Rattle.demands.specs.Forms.{PathForm, GuardForm}
 use Rattle.demands.specs.OnLines.{HasLabel, Unknown, Known, PathSays, form, labelTwice, width, fine, GuardSays, unknown, itself, pairTwice, over, StartSays, other, path-says, guard-says, start-says, FirstRight, start, more}
-use Rattle.demands.specs.OnReading.{SheetSays, pathsForm, pathsCount, pathLineWrong, guardsForm, guardsCount, guardLineWrong, withoutPlan, startsForm, startsCount, startLineWrong, leftOver, withPlan, sheet-only, reading-right}
+use Rattle.demands.specs.OnReading.{SheetRight, withoutPlan, withPlan, right-only, reading-right}
 
 -- a line that is right: its fields, and what it puts down
 pub record PathPut (k : ℕ) (t : List ℕ × List ℕ) (l : List ℕ) (t′ : List ℕ × List ℕ) (l′ : List ℕ) : Type 0 where
@@ -139,47 +139,35 @@ pub record PastCleared (n : ℕ) (labels : List ℕ) (lent : Lent) (starts : Lis
 abbrev Past : ℕ × List ℕ × Lent × List ℕ → Type 0
 Past t = PastCleared (t .0) (t .1) (t .2) (t .3)
 
-sheet-past : (l : List ℕ) (x : Section (ℕ × List ℕ × Lent × List ℕ)) (t : ℕ × List ℕ × Lent × List ℕ) (r : List ℕ) → SheetSays l x → x ≡ done t r → Past t
-sheet-past l x t r (withoutPlan n labels widths m guards g) e =
-    let q : _≡_ {A = ℕ × List ℕ × Lent × List ℕ} (n, labels, lend widths guards, cleared 128 0) t = cc in
+sheet-past : (l : List ℕ) (t : ℕ × List ℕ × Lent × List ℕ) → SheetRight l t → Past t
+sheet-past l t (withoutPlan n labels widths m guards g) =
     let p = paths-past (g .paths .l₁) n (labels, widths) (g .l₂) (g .paths .each) in
-    subst Past q (record {
+    record {
       labelCells = p .labels;
       widthCells = p .widths;
       guardCells = guards-past n labels (g .l₃) m guards [] (g .paths .most) (g .each);
       startCells = λ k h. cleared-zero 128 k;
-    })
-sheet-past l x t r (withPlan n labels widths m guards starts s) e =
-    let q : _≡_ {A = ℕ × List ℕ × Lent × List ℕ} (n, labels, lend widths guards, starts) t = cc in
+    }
+sheet-past l t (withPlan n labels widths m guards starts s) =
     let g = s .guarded in
     let p = paths-past (g .paths .l₁) n (labels, widths) (g .l₂) (g .paths .each) in
-    subst Past q (record {
+    record {
       labelCells = p .labels;
       widthCells = p .widths;
       guardCells = guards-past n labels (g .l₃) m guards (s .l₄) (g .paths .most) (g .each);
       startCells = starts-past labels (s .l₅) n starts [] (s .each);
-    })
-sheet-past l x t r (pathsForm h) e = let z : _≡_ {A = ℕ} 0 1 = cc in absurd (omega arith)
-sheet-past l x t r (pathsCount n l₁ c h) e = let z : _≡_ {A = ℕ} 0 1 = cc in absurd (omega arith)
-sheet-past l x t r (pathLineWrong n l₁ c a b k u l₂ y h f g) e = let z : _≡_ {A = ℕ} 0 1 = cc in absurd (omega arith)
-sheet-past l x t r (guardsForm n labels widths l₂ p h) e = let z : _≡_ {A = ℕ} 0 1 = cc in absurd (omega arith)
-sheet-past l x t r (guardsCount n labels widths l₂ p m u c h) e = let z : _≡_ {A = ℕ} 0 1 = cc in absurd (omega arith)
-sheet-past l x t r (guardLineWrong n labels widths l₂ p m l₃ c b k u l₄ y h f g) e = let z : _≡_ {A = ℕ} 0 1 = cc in absurd (omega arith)
-sheet-past l x t r (startsForm n labels widths m guards y u g h) e = let z : _≡_ {A = ℕ} 0 1 = cc in absurd (omega arith)
-sheet-past l x t r (startsCount n labels widths m guards l₄ g c u f h) e = let z : _≡_ {A = ℕ} 0 1 = cc in absurd (omega arith)
-sheet-past l x t r (startLineWrong n labels widths m guards k u l₆ y h s g) e = let z : _≡_ {A = ℕ} 0 1 = cc in absurd (omega arith)
-sheet-past l x t r (leftOver n labels widths m guards starts y u g) e = let z : _≡_ {A = ℕ} 0 1 = cc in absurd (omega arith)
+    }
 
 module _ (text labels : List ℕ) (lent : Lent) (starts : List ℕ) (zero-answer : reading text labels lent starts .answer .number ≡ 0) where
   abbrev leftBehind : Left SheetRead (List ℕ × Lent × List ℕ)
   leftBehind = reading text labels lent starts
 
   pub reading-past : PastCleared (leftBehind .answer .n) (leftBehind .tables .0) (leftBehind .tables .1) (leftBehind .tables .2)
-  reading-past = sheet-past text _ _ [] (reading-right text labels lent starts zero-answer .1) refl
+  reading-past = sheet-past text _ (reading-right text labels lent starts zero-answer .1)
 
   -- and what the n paths hold is what the writer accepts
   pub reading-writable : Writable (leftBehind .answer .n) (leftBehind .tables .0) (leftBehind .tables .1) (leftBehind .tables .2)
-  reading-writable = sheet-read text _ [] (sheet-only text _ (reading-right text labels lent starts zero-answer .1))
+  reading-writable = sheet-read text _ [] (right-only text _ (reading-right text labels lent starts zero-answer .1))
 
 -- tables that are cleared past n are all kept
 module _ (n : ℕ) (labels : List ℕ) (lent : Lent) (starts : List ℕ) (p : PastCleared n labels lent starts) where

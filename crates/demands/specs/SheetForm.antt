@@ -14,7 +14,7 @@ use lib.Dec.{ltb, eqb}
 use borrow.Author.Tests.{lt-ltb, le-ltb, ne-eqb}
 use Rattle.rules.specs.Tables.{at, cell, cleared, Lent, lend, clearedNetwork}
 use Rattle.rules.specs.Text.{pathsWord, guardsWord, startsWord}
-use Rattle.rules.specs.Sheet.{find, putRow, right, Section, done, lines, countLine, pathStep, guardStep, startStep, after, startsPart, guardsPart}
+use Rattle.rules.specs.Sheet.{find, putRow, right, done, lines, countLine, pathStep, guardStep, startStep, after, startsPart, guardsPart}
 use Rattle.rules.specs.Writing.{labelOf, hasPlan, joinFrom, countText, pathText, pathsText, startsText}
 use Rattle.rules.specs.Calls.{left, reading}
 use Rattle.table_laws.specs.Count.{each-suc}
@@ -31,7 +31,7 @@ use Rattle.demands.specs.RoundTrip.{some-byte, found-label, label-all, l
 use Rattle.demands.specs.SheetTrip.{starts-trip}
 use Rattle.demands.specs.Forms.{Label, all-bytes, form-guard, pairLine, lineText}
 use Rattle.demands.specs.OnLines.{FirstRight, start, more, path-says, guard-says, start-says}
-use Rattle.demands.specs.OnReading.{SheetTables, SheetSays, GuardsRight, pathsForm, pathsCount, pathLineWrong, guardsForm, guardsCount, guardLineWrong, withoutPlan, startsForm, startsCount, startLineWrong, leftOver, withPlan, sheetRead, reading-is, reading-right}
+use Rattle.demands.specs.OnReading.{SheetTables, SheetRight, GuardsRight, withoutPlan, withPlan, sheetRead, reading-is, reading-right}
 use Rattle.demands.specs.ReadCells.{path-put, guard-put, start-put, PastCleared, same-cells, same-labels}
 use Rattle.demands.specs.LongestSheet.{row-label}
 
@@ -315,35 +315,21 @@ guarded-form l n labels widths m guards l₄ starts g e =
     paths-are : (n : ℕ) (labels widths r : List ℕ) → (countText pathsWord n ++ joinFrom n 0 (pathText labels widths)) ++ r ≡ pathsText n labels widths ++ r
     paths-are n labels widths r = unfold pathsText in refl
 
-sheet-form : (l : List ℕ) (x : Section (ℕ × List ℕ × Lent × List ℕ)) (t : ℕ × List ℕ × Lent × List ℕ) (r : List ℕ) → SheetSays l x → x ≡ done t r → FormOf l (t .0) (t .1) (t .2) (t .3)
-sheet-form l x t r (withoutPlan n labels widths m guards g) e =
-    let q : _≡_ {A = ℕ × List ℕ × Lent × List ℕ} (n, labels, lend widths guards, cleared 128 0) t = cc in
-    subst (λ (u : ℕ × List ℕ × Lent × List ℕ). FormOf l (u .0) (u .1) (u .2) (u .3)) q
-    (guarded-form l n labels widths m guards [] (cleared 128 0) g (sym (no-plan n (g .paths .most) labels)))
-sheet-form l x t r (withPlan n labels widths m guards starts s) e =
-    let q : _≡_ {A = ℕ × List ℕ × Lent × List ℕ} (n, labels, lend widths guards, starts) t = cc in
+sheet-form : (l : List ℕ) (t : ℕ × List ℕ × Lent × List ℕ) → SheetRight l t → FormOf l (t .0) (t .1) (t .2) (t .3)
+sheet-form l t (withoutPlan n labels widths m guards g) =
+    guarded-form l n labels widths m guards [] (cleared 128 0) g (sym (no-plan n (g .paths .most) labels))
+sheet-form l t (withPlan n labels widths m guards starts s) =
     let g = s .guarded in
     let p = paths-said (g .paths .l₁) n (labels, widths) (g .l₂) (g .paths .most) (g .paths .each) in
     let h = starts-said labels (s .l₅) n starts [] (p .longLabels) (g .paths .most) (s .each) in
-    subst (λ (u : ℕ × List ℕ × Lent × List ℕ). FormOf l (u .0) (u .1) (u .2) (u .3)) q
-    (guarded-form l n labels widths m guards (s .l₄) starts g
+    guarded-form l n labels widths m guards (s .l₄) starts g
     (s .count .text ∙ ap (λ (x : List ℕ). countText startsWord n ++ x) (h .text ∙ append-nil (joinFrom n 0 (pathText labels starts)))
-    ∙ sym (a-plan n labels starts (g .paths .least) (h .least 0 (omega (arith, g .paths .least))))))
-sheet-form l x t r (pathsForm h) e = let z : _≡_ {A = ℕ} 0 1 = cc in absurd (omega arith)
-sheet-form l x t r (pathsCount n l₁ c h) e = let z : _≡_ {A = ℕ} 0 1 = cc in absurd (omega arith)
-sheet-form l x t r (pathLineWrong n l₁ c a b k u l₂ y h f g) e = let z : _≡_ {A = ℕ} 0 1 = cc in absurd (omega arith)
-sheet-form l x t r (guardsForm n labels widths l₂ p h) e = let z : _≡_ {A = ℕ} 0 1 = cc in absurd (omega arith)
-sheet-form l x t r (guardsCount n labels widths l₂ p m u c h) e = let z : _≡_ {A = ℕ} 0 1 = cc in absurd (omega arith)
-sheet-form l x t r (guardLineWrong n labels widths l₂ p m l₃ c b k u l₄ y h f g) e = let z : _≡_ {A = ℕ} 0 1 = cc in absurd (omega arith)
-sheet-form l x t r (startsForm n labels widths m guards y u g h) e = let z : _≡_ {A = ℕ} 0 1 = cc in absurd (omega arith)
-sheet-form l x t r (startsCount n labels widths m guards l₄ g c u f h) e = let z : _≡_ {A = ℕ} 0 1 = cc in absurd (omega arith)
-sheet-form l x t r (startLineWrong n labels widths m guards k u l₆ y h s g) e = let z : _≡_ {A = ℕ} 0 1 = cc in absurd (omega arith)
-sheet-form l x t r (leftOver n labels widths m guards starts y u g) e = let z : _≡_ {A = ℕ} 0 1 = cc in absurd (omega arith)
+    ∙ sym (a-plan n labels starts (g .paths .least) (h .least 0 (omega (arith, g .paths .least)))))
 
 -- a text that is read is the sheet of the tables that are left
 pub read-form : (text labels : List ℕ) (lent : Lent) (starts : List ℕ) → reading text labels lent starts .answer .number ≡ 0
     → FormOf text (reading text labels lent starts .answer .n) (reading text labels lent starts .tables .0) (reading text labels lent starts .tables .1) (reading text labels lent starts .tables .2)
-read-form text labels lent starts z = sheet-form text _ _ [] (reading-right text labels lent starts z .1) refl
+read-form text labels lent starts z = sheet-form text _ (reading-right text labels lent starts z .1)
 
 -- The other way round. The guards of the first k pairs of a list, put down one after the other
 unfoldable filled : List ℕ → (ℕ → ℕ) → (ℕ → ℕ) → ℕ → List ℕ
