@@ -38,7 +38,7 @@ pub square-in : (n : ℕ) (guards : List ℕ) (c : ℕ) → c / 128 < n → c % 
 unfolding squareOf
 square-in n guards c a b = rw (lt-ltb (c / 128) n a, lt-ltb (c % 128) n b)
 
-square-row : (n : ℕ) (guards : List ℕ) (c : ℕ) → n ≤ c / 128 → squareOf n guards c ≡ 255
+pub square-row : (n : ℕ) (guards : List ℕ) (c : ℕ) → n ≤ c / 128 → squareOf n guards c ≡ 255
 unfolding squareOf
 square-row n guards c a = rw (le-ltb (c / 128) n a)
 
@@ -46,7 +46,7 @@ and-false : (b : Bool) → (b && false) ≡ false
 and-false true = refl
 and-false false = refl
 
-square-column : (n : ℕ) (guards : List ℕ) (c : ℕ) → n ≤ c % 128 → squareOf n guards c ≡ 255
+pub square-column : (n : ℕ) (guards : List ℕ) (c : ℕ) → n ≤ c % 128 → squareOf n guards c ≡ 255
 unfolding squareOf
 square-column n guards c a = rw (le-ltb (c % 128) n a, and-false (ltb (c / 128) n))
 

@@ -32,3 +32,11 @@ pub mod Words
 pub mod OnRefusing
 pub mod OnAccepting
 pub mod OnLeaving
+-- the sheet's lines and the program
+pub mod Forms
+pub mod OnLines
+pub mod OnReading
+pub mod ReadCells
+pub mod OnProgram
+pub mod LongestSheet
+pub mod SheetForm

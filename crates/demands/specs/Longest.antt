@@ -21,21 +21,21 @@ use Rattle.demands.specs.Writable.{Writable, writing-writable, writable-
 use Rattle.table_laws.specs.Scans.{sumFrom, sum-from}
 
 -- digits of small numbers
-two-digits : (v : ℕ) → v < 100 → length (numeral v) ≤ 2
+pub two-digits : (v : ℕ) → v < 100 → length (numeral v) ≤ 2
 two-digits v b = go (decLt v 10)
   where
     go : Dec (v < 10) → length (numeral v) ≤ 2
     go (yes l) = omega (arith, digits-one v l)
     go (no l) = omega (arith, digits-more v (omega arith) (omega arith), digits-one (v / 10) (omega arith))
 
-three-digits : (v : ℕ) → v < 1000 → length (numeral v) ≤ 3
+pub three-digits : (v : ℕ) → v < 1000 → length (numeral v) ≤ 3
 three-digits v b = go (decLt v 10)
   where
     go : Dec (v < 10) → length (numeral v) ≤ 3
     go (yes l) = omega (arith, digits-one v l)
     go (no l) = omega (arith, digits-more v (omega arith) (omega arith), two-digits (v / 10) (omega arith))
 
-four-digits : (v : ℕ) → v < 10000 → length (numeral v) ≤ 4
+pub four-digits : (v : ℕ) → v < 10000 → length (numeral v) ≤ 4
 four-digits v b = go (decLt v 10)
   where
     go : Dec (v < 10) → length (numeral v) ≤ 4

@@ -100,7 +100,7 @@ path-label l w v r e =
     fields (some x y) = x .0
 
 -- The labels: path k's row, and those before it
-run-bytes : (m j : ℕ) (w : List ℕ) → All isLabelByte (drop j w) → length w ≤ j + m → run isLabelByte (bytesFrom m j w) ≡ drop j w
+pub run-bytes : (m j : ℕ) (w : List ℕ) → All isLabelByte (drop j w) → length w ≤ j + m → run isLabelByte (bytesFrom m j w) ≡ drop j w
 unfolding bytesFrom run
 run-bytes zero j w h l = sym (drop-of-length-le w {i = j} (omega arith))
 run-bytes (suc m) j w h l = go (decLt j (length w)) (λ a. run-bytes m (suc j) w a (omega arith))
@@ -139,7 +139,7 @@ module _ (labels w : List ℕ) (k : ℕ) (long : length labels ≡ 1024) (l : k 
       zero-plus : (j : ℕ) → 0 + j ≡ j
       zero-plus j = omega arith
 
-  other-label : (i : ℕ) → i < k → labelOf after-put i ≡ labelOf labels i
+  pub other-label : (i : ℕ) → i < k → labelOf after-put i ≡ labelOf labels i
   unfolding labelOf
   other-label i h =
       ap (run isLabelByte)

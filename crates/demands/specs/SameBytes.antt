@@ -19,7 +19,7 @@ use Rattle.demands.specs.GuardTrip.{keptGuards, squareOf, square-in, kep
 use Rattle.demands.specs.SheetTrip.{sheetOf, written-sheet}
 use Rattle.demands.specs.Writable.{Writable, writing-writable, writable-writing}
 
-join-same : (f g : ℕ → List ℕ) (m k : ℕ) → ((i : ℕ) → i < k + m → f i ≡ g i) → joinFrom m k f ≡ joinFrom m k g
+pub join-same : (f g : ℕ → List ℕ) (m k : ℕ) → ((i : ℕ) → i < k + m → f i ≡ g i) → joinFrom m k f ≡ joinFrom m k g
 unfolding joinFrom
 join-same f g zero k h = refl
 join-same f g (suc m) k h = rw (h k (omega arith), join-same f g m (suc k) (λ i l. h i (omega arith)))

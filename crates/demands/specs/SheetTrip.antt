@@ -43,7 +43,7 @@ module _ (n : ℕ) (labels : List ℕ) (lent : Lent) (starts : List ℕ) (ok : W
       go k (yes l) = front-in n starts k l ∙ zero-start k (found-not (λ k. not (eqb (at starts k) 0)) n e k l)
       go k (no l) = front-past n starts k (omega arith)
 
-  starts-trip : (line : ℕ) → startsPart n line (keptLabels n labels) (cleared 128 0) (startsText n labels starts) ≡ done (keptCells n starts) []
+  pub starts-trip : (line : ℕ) → startsPart n line (keptLabels n labels) (cleared 128 0) (startsText n labels starts) ≡ done (keptCells n starts) []
   unfolding startsText
   starts-trip line = go (hasPlan n starts) refl
     where

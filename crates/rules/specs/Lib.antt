@@ -24,3 +24,4 @@ pub mod Better
 pub mod Program
 -- Figures to hold it against
 pub mod Figures
+pub mod Worked
