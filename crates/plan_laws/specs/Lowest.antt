@@ -4,7 +4,7 @@ use mathlib.Core.Path.{_≡_, refl}
 use mathlib.Core.Bool.{Bool, true, false, cond}
 use native.Mathlib.Omega.{arith}
 use lib.Dec.{ltb}
-use borrow.Author.Tests.{ltb-true, lt-ltb}
+use borrow.Author.Tests.{ltb-true, lt-ltb, le-ltb}
 use Rattle.rules.specs.Plan.{Net, Conflict}
 use Rattle.rules.specs.Packing.{past, reach, lowest}
 use Rattle.table_laws.specs.Count.{each-suc}
@@ -54,3 +54,12 @@ module _ (net : Net) where
   unfolding lowest
   lowest-local p q o r zero k h g = refl
   lowest-local p q o r (suc m) k h g = rw (lowest-local p q o r m k (λ i l. h i (omega arith)) (λ i l. g i (omega arith)), g m (omega arith), h m (omega arith))
+
+  -- what a path asks of another: the slot past it and their guard, or nothing
+  pub reach-conflict : (j k s r : ℕ) → Conflict net j k → r ≡ past net j k s → r ≡ reach net j k s
+  unfolding reach
+  reach-conflict j k s r c e = rw (lt-ltb (net .guard j k) 255 c) e
+
+  pub reach-free : (j k s : ℕ) → 255 ≤ net .guard j k → 0 ≡ reach net j k s
+  unfolding reach
+  reach-free j k s c = rw (le-ltb (net .guard j k) 255 c)
