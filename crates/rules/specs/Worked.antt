@@ -43,9 +43,11 @@ one line = bytes "paths 1\n" ++ bytes line ++ bytes "\nguards 0\n"
 pair : String → List ℕ
 pair rest = bytes "paths 2\nA 1\nB 64\n" ++ bytes rest
 
--- what the writer answers for the tables that were read, with other starts for paths 0 and 1, and what it writes into 99 bytes
-written : List ℕ → ℕ → ℕ → Left SheetWritten (List ℕ)
-written text a b = let r = readOver text in writing (r .answer .n) (r .tables .0) (r .tables .1) (set (set (r .tables .2) 0 a) 1 b) (cleared 99 7)
+-- what the writer does with the sheet of A and B and a guard, where the cell c of the labels is v, and the starts are a and b, in a text of 99 bytes
+written : ℕ → ℕ → ℕ → ℕ → Left SheetWritten (List ℕ)
+written c v a b =
+    let t = readOver (pair "guards 1\nB A 32\n") .tables in
+    writing 2 (set (t .0) c v) (t .1) (set (set (t .2) 0 a) 1 b) (cleared 99 7)
 
 writtenRow : Left SheetWritten (List ℕ) → List ℕ
 writtenRow r = r .answer .number ∷ r .answer .place ∷ r .answer .length ∷ take (r .answer .length + 1) (r .tables)
@@ -60,11 +62,11 @@ worked :
     ∷ answersTo (one "A 0" ∷ one "A 64" ∷ one "A 65" ∷ one "A 99999" ∷ one "A 100000" ∷ one "A 01" ∷ one "A 1 " ∷ one "A 1A" ∷ one "A " ∷ one "A" ∷ [])
     ∷ answersTo (bytes "paths 128\n" ∷ bytes "paths 129\n" ∷ bytes "paths 0\n" ∷ bytes "paths 99999\n" ∷ bytes "paths 100000\n" ∷ bytes "Paths 1\n" ∷ bytes "paths 1" ∷ [] ∷ [])
     ∷ answersTo (pair "guards 2000\n" ∷ pair "guards 2001\n" ∷ pair "guards 1\nB A 32\n" ∷ pair "guards 1\nB A 33\n" ∷ pair "guards 1\nB A 255\n" ∷ pair "" ∷ [])
-    ∷ answersTo (pair "guards 0\nstarts 2\nA 16384\nB 1\n" ∷ pair "guards 0\nstarts 2\nA 1\nB 16385\n" ∷ pair "guards 0\nstarts 2\nA 0\nB 1\n" ∷ pair "guards 0\nstarts 1\nA 1\n" ∷ pair "guards 0\nstarts 2\nA 1\nB 1\n\n" ∷ [])
+    ∷ answersTo (pair "guards 0\nstarts 2\nA 16384\nB 1\n" ∷ pair "guards 0\nstarts 2\nA 1\nB 16385\n" ∷ pair "guards 0\nstarts 2\nA 0\nB 1\n" ∷ pair "guards 0\nstarts 1\nA 1\n" ∷ pair "guards 0\nstarts 2\nA 1\nB 1\n\n" ∷ pair "guards 0\nstarts 2\nA 1\n" ∷ pair "guards 0\nStarts 2\n" ∷ [])
     ∷ answersTo (bytes "paths 2\n0123456A 1\n0123456B 1\nguards 0\n" ∷ bytes "paths 2\nA 1\nA 65\n" ∷ pair "guards 1\nA C 33\n" ∷ pair "guards 1\nC A 33\n" ∷ pair "guards 1\nB B 33\n" ∷ pair "guards 2\nA B 0\nB A 33\n" ∷ pair "guards 0\nstarts 2\nB 0\n" ∷ [])
     ∷ (cellsOf (one "01234567 64") ++ cellsOf (pair "guards 1\nB A 32\nstarts 2\nA 7\nB 16384\n"))
-    ∷ writtenRow (written (pair "guards 1\nB A 32\n") 7 16384)
-    ∷ (writtenRow (written (pair "guards 0\n") 0 0) ++ writtenRow (written (pair "guards 0\n") 0 7))
+    ∷ (writtenRow (written 0 65 7 16384) ++ writtenRow (written 0 65 0 0))
+    ∷ (writtenRow (written 0 65 0 7) ++ writtenRow (written 8 0 1 1) ++ writtenRow (written 2 65 1 1) ++ writtenRow (written 8 65 1 1))
     ∷ printed (bytes "paths 3\nA 1\n0A 2\n-0 3\nguards 3\n-0 0A 2\nA -0 0\n0A A 1\nstarts 3\nA 1\n0A 1\n-0 1\n")
     ∷ printed (bytes "paths 2\nA 1\nA 1\n")
     ∷ printed odd
@@ -74,12 +76,12 @@ worked :
     ∷ (3 ∷ 2 ∷ 0 ∷ 0 ∷ 3 ∷ 2 ∷ 3 ∷ 2 ∷ 11 ∷ 2 ∷ 11 ∷ 2 ∷ 11 ∷ 2 ∷ 11 ∷ 2 ∷ 11 ∷ 2 ∷ 11 ∷ 2 ∷ [])
     ∷ (11 ∷ 2 ∷ 1 ∷ 1 ∷ 1 ∷ 1 ∷ 1 ∷ 1 ∷ 11 ∷ 1 ∷ 11 ∷ 1 ∷ 11 ∷ 1 ∷ 11 ∷ 1 ∷ [])
     ∷ (11 ∷ 5 ∷ 1 ∷ 4 ∷ 0 ∷ 0 ∷ 4 ∷ 5 ∷ 4 ∷ 5 ∷ 11 ∷ 4 ∷ [])
-    ∷ (0 ∷ 0 ∷ 7 ∷ 7 ∷ 7 ∷ 6 ∷ 1 ∷ 5 ∷ 11 ∷ 8 ∷ [])
+    ∷ (0 ∷ 0 ∷ 7 ∷ 7 ∷ 7 ∷ 6 ∷ 1 ∷ 5 ∷ 11 ∷ 8 ∷ 11 ∷ 7 ∷ 11 ∷ 5 ∷ [])
     ∷ (0 ∷ 0 ∷ 12 ∷ 3 ∷ 13 ∷ 5 ∷ 13 ∷ 5 ∷ 13 ∷ 5 ∷ 14 ∷ 6 ∷ 13 ∷ 6 ∷ [])
     ∷ (bytes "01234567" ++ cleared 9 0 ++ (64 ∷ 0 ∷ 0 ∷ 255 ∷ 255 ∷ 255 ∷ 255 ∷ 255 ∷ 255 ∷ 0 ∷ 0 ∷ 0 ∷ [])
     ++ bytes "A" ++ cleared 7 0 ++ bytes "B" ++ cleared 8 0 ++ (1 ∷ 64 ∷ 0 ∷ 255 ∷ 32 ∷ 255 ∷ 32 ∷ 255 ∷ 255 ∷ 7 ∷ 16384 ∷ 0 ∷ []))
-    ∷ (0 ∷ 0 ∷ 54 ∷ pair "guards 1\nA B 32\nstarts 2\nA 7\nB 16384\n" ++ (7 ∷ []))
-    ∷ ((0 ∷ 0 ∷ 26 ∷ pair "guards 0\n" ++ (7 ∷ [])) ++ (7 ∷ 0 ∷ 0 ∷ 7 ∷ []))
+    ∷ (0 ∷ 0 ∷ 54 ∷ pair "guards 1\nA B 32\nstarts 2\nA 7\nB 16384\n" ++ (7 ∷ 0 ∷ 0 ∷ 33 ∷ pair "guards 1\nA B 32\n") ++ (7 ∷ []))
+    ∷ (7 ∷ 0 ∷ 0 ∷ 7 ∷ 11 ∷ 1 ∷ 0 ∷ 7 ∷ 11 ∷ 0 ∷ 0 ∷ 7 ∷ 12 ∷ 1 ∷ 0 ∷ 7 ∷ [])
     ∷ bytes "paths 3\nA 1\n0A 2\n-0 3\nguards 3\nA 0A 1\nA -0 0\n0A -0 2\nstarts 3\nA 4\n0A 6\n-0 1\n"
     ∷ bytes "refused 12 line 3\n"
     ∷ (odd ++ bytes "starts 9\nA 123\nB 1\nC 1\nD 92\nE 96\nF 209\nG 139\nH 104\nI 53\n")
