@@ -1,4 +1,5 @@
-// The fields of a case. Each function is total: what does not stand in the line, or does not fit, counts as the usual value.
+// The fields of a case. Each function is total: what does not stand in the line, or does not fit, counts as
+// the usual value.
 use text::Amount;
 use text::Next;
 ghost use mathlib.Core.Path.{_≡_};
@@ -192,7 +193,8 @@ fn put_guards(guards: &mut [u8], n: usize, i: usize, j: usize, v: usize)
     }
 }
 
-// Puts a pair, i-j=v; or that and all such pairs after it, i-j*v; or one cell, i=v. Answers the place of the next.
+// Puts a pair, i-j=v; or that and all such pairs after it, i-j*v; or one cell, i=v. Answers the place of the
+// next.
 fn put_pair(line: &[u8], n: usize, place: usize, guards: &mut [u8]) -> usize
     requires { ⌜ n < 100000 ⌝ }
 {

@@ -9,8 +9,8 @@ ghost use Rattle.rules.specs.Plan.{netOf, tooClose};
 ghost use Rattle.rules.specs.Numbers.{clashFault};
 ghost use Rattle.plan_laws.specs.Clash.{pairClose};
 
-// 8, of one pair: two paths with guard g, at s with width w and at t with width v, are in conflict and too close, that is neither
-// starts above the other's end plus their guard.
+// 8, of one pair: two paths with guard g, at s with width w and at t with width v, are in conflict and too
+// close, that is neither lies clear above the other (RULES 4).
 fn pair_close(g: u8, s: u16, w: u16, t: u16, v: u16) -> bool
     requires { ⌜ (1 ≤ w) × ((w ≤ 64) × ((1 ≤ v) × ((v ≤ 64) × ((s ≤ 16384) × (t ≤ 16384))))) ⌝ }
     ensures { λ r. ⌜ r ≡ pairClose g s w t v ⌝ }
@@ -72,7 +72,7 @@ fn close_row(n: usize, i: usize, widths: &[u16], guards: &[u8], starts: &[u16]) 
     n
 }
 
-// 8: the first conflicting pair, i<j, too close.
+// 8: the first pair that is too close, row by row above the diagonal.
 pub fn clash_fault(n: usize, widths: &[u16], guards: &[u8], starts: &[u16]) -> Fault
     requires { ⌜ Network n (lend (now widths) (now guards)) × Starts n (now starts) ⌝ }
     ensures { λ r. ⌜ r ≡ clashFault n (netOf (lend (now (widths .entry)) (now (guards .entry)))) (now (starts .entry)) ⌝ }

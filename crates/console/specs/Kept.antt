@@ -9,7 +9,8 @@ use lib.Seq.{sets}
 abbrev pub room : List ℕ → ℕ → List ℕ → List ℕ
 room text have came = take (length text - have) came
 
--- the bytes that came stand after those that the text had, as far as there is room; it has r of them then, and all else is as it was
+-- the bytes that came stand after those that the text had, as far as there is room; it has r of them then,
+-- and all else is as it was
 pub record Kept (text₀ : List ℕ) (have : ℕ) (came : List ℕ) (r : ℕ) (text : List ℕ) : Type 0 where
   pub within : r ≤ length text
   pub place : r ≡ have + length (room text₀ have came)

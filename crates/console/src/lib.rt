@@ -1,8 +1,9 @@
 // An inner crate of the programs: standard input read to its end, a refusal's line, and bytes written whole.
 //
-// What is proved: that every function is safe and ends, where each byte that came is put (`keep`, `read_all`), and a refusal's line
-// (`refuse`). What the system reads or writes no contract can say: that the bytes that came are those of the input, each once and in
-// order, and that those handed to `write` arrive, is only seen by running a program (examples/check).
+// What is proved: that every function is safe and ends, where each byte that came is put (`keep`,
+// `read_all`), and a refusal's line (`refuse`). What the system reads or writes no contract can say: that the
+// bytes that came are those of the input, each once and in order, and that those handed to `write` arrive, is
+// only seen by running a program (examples/check).
 use libc::STDERR_FILENO;
 ghost use mathlib.Core.Path.{_≡_};
 ghost use Prim.Native.Nat.{_≤_, _<_};
@@ -17,13 +18,15 @@ pub struct Input {
     pub length: usize,
 }
 
-// What went out: how many bytes, from the first on; and whether the last call failed. Where it did not, and bytes are left, it took none.
+// What went out: how many bytes, from the first on; and whether the last call failed. Where it did not, and
+// bytes are left, it took none.
 pub struct Written {
     pub count: usize,
     pub is_failed: bool,
 }
 
-// Puts bytes that came into the text, after those that it has, as far as there is room. Answers how many it has then.
+// Puts bytes that came into the text, after those that it has, as far as there is room. Answers how many it
+// has then.
 fn keep(text: &mut [u8], have: usize, came: &[u8]) -> usize
     requires { ⌜ have ≤ length (now text) ⌝ }
     ensures { λ r. ⌜ Kept (now (text .entry)) have (now (came .entry)) r (now (text .exit)) ⌝ }
@@ -41,8 +44,8 @@ fn keep(text: &mut [u8], have: usize, came: &[u8]) -> usize
     k
 }
 
-// Whether a call has failed for good. One that was interrupted, or that would have had to wait, is tried again; before the latter others
-// get their turn.
+// Whether a call has failed for good. One that was interrupted, or that would have had to wait, is tried
+// again; before the latter others get their turn.
 fn has_failed(got: isize) -> bool {
     if got >= 0 {
         return false;
@@ -55,9 +58,10 @@ fn has_failed(got: isize) -> bool {
     error != libc::EINTR
 }
 
-// Reads an input to its end, whatever the pieces are that it comes in. What the text has no room for is read and dropped. A read that
-// fails is not the end; `errno` then says why. A proved loop has to end, so this one counts its turns down, from a number that no run uses up.
-// Promised: the text past the length answered is as it was.
+// Reads an input to its end, whatever the pieces are that it comes in. What the text has no room for is read
+// and dropped. A read that fails is not the end; `errno` then says why. A proved loop has to end, so this one
+// counts its turns down, from a number that no run uses up. Promised: the text past the length answered is as
+// it was.
 pub fn read_all(fd: i32, text: &mut [u8]) -> Input
     ensures { λ r. ⌜ Came (now (text .entry)) (r .length) (now (text .exit)) ⌝ }
 {
@@ -88,7 +92,8 @@ pub fn read_all(fd: i32, text: &mut [u8]) -> Input
     }
 }
 
-// Writes bytes until all are taken, a write takes none, or a write fails. Each call is handed those that are left.
+// Writes bytes until all are taken, a write takes none, or a write fails. Each call is handed those that are
+// left.
 pub fn write(fd: i32, bytes: &[u8]) -> Written
     ensures { λ r. ⌜ r .count ≤ length (now (bytes .entry)) ⌝ }
 {
@@ -146,7 +151,7 @@ pub fn print(fd: i32, bytes: &[u8], about: &[u8]) -> bool {
     false
 }
 
-// "Refused, it prints one line, `refused 11 line 3` in that form: the number, then the line."
+// The one line of a refusal: the number, then the line.
 pub fn refuse(out: &mut [u8], number: usize, line: usize) -> usize
     requires { ⌜ (number < 100000) × (line < 100000) × (25 ≤ length (now out)) ⌝ }
     ensures { λ r. ⌜ Wrote (now (out .entry)) 0 (refusalText number line) r (now (out .exit)) ⌝ }

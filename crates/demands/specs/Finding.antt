@@ -217,7 +217,7 @@ module _ (net : Net) where
         stays z f (yes d) = absurd (y .closed z q d a h (rw (f, e) c))
         stays z f (no d) = omega arith
 
-    -- so no walk joins a root to a path of a lower number, and in the sides of document 01 it is low
+    -- so no walk joins a root to a path of a lower number, and by the rule of the sides (RULES 7) it is low
     root-low : (s : ℕ → Bool) → Sides net n s → (m r : ℕ) → m ≤ n → Root m r → s (W r) ≡ false
     root-low s sides m r g y = sides .lowest (W r) (ord .inside r (omega (arith, y .inside))) (λ j b l w. under-root j b l w)
       where

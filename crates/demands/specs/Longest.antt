@@ -1,4 +1,5 @@
--- "The longest sheet has 45,489 bytes": no sheet that is written is longer, so a text of that size is always enough. Assumes nothing.
+-- The longest sheet (RULES 13): none that is written has more than 45,489 bytes, so a text of that size is
+-- always enough. Assumes nothing.
 use Prim.Native.Nat.{ℕ, zero, suc, _+_, _*_, _/_, _≤_, _<_}
 use mathlib.Core.Path.{_≡_, refl, sym, ap, _∙_}
 use mathlib.Core.Logic.{_⊎_, inl, inr}

@@ -1,4 +1,4 @@
--- Demand 2: judging, and 6, as the calls answer. Assumes nothing.
+-- Demand 2 (RULES 21): judging, and 6, as the calls answer. Assumes nothing.
 use Prim.Native.Nat.{ℕ}
 use mathlib.Core.Path.{_≡_}
 use mathlib.Core.Logic.{_↔_}

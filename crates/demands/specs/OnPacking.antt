@@ -1,4 +1,5 @@
--- Demand 2: packing, as the call answers: for every n and all tables for which it answers 0. Assumes nothing.
+-- Demand 2 (RULES 21): packing, as the call answers: for every n and all tables for which it answers 0.
+-- Assumes nothing.
 use Prim.Native.Nat.{ℕ, zero, suc, _≤_, _<_, max}
 use mathlib.Core.Path.{_≡_, refl, _∙_}
 use mathlib.Core.Logic.{_⊎_, inl, inr}

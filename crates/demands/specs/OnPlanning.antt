@@ -1,4 +1,4 @@
--- Demand 2: planning, as the call answers. Assumes nothing.
+-- Demand 2 (RULES 21): planning, as the call answers. Assumes nothing.
 use Prim.Native.Nat.{ℕ, _≤_}
 use mathlib.Core.Path.{_≡_, refl, sym, ap, _∙_}
 use mathlib.Core.Bool.{Bool, true, false, cond}
@@ -52,7 +52,7 @@ module _ (n : ℕ) (lent : Lent) (order starts : List ℕ) (seed rounds : ℕ) (
     unfolding donePlan
     sided-is = plannable-planning n lent order starts seed rounds plannable ∙ rw has
 
-    -- two-sided networks get the best plan: document 01's figure, and no valid plan is lower
+    -- two-sided networks get the best plan: the figure of RULES 7, and no valid plan is lower
     pub planning-figure : leftBehind .answer .highest ≡ twoSidedHighest net n
     unfolding donePlanned
     planning-figure =

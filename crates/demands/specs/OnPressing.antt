@@ -1,4 +1,4 @@
--- Demand 3, over demand 2's valid plans and packing, as the calls answer. Assumes nothing.
+-- Demand 3 (RULES 21), over demand 2's valid plans and packing, as the calls answer. Assumes nothing.
 use Prim.Native.Nat.{ℕ, _-_, _≤_, _<_}
 use mathlib.Core.Path.{_≡_, refl, sym, _∙_}
 use mathlib.Core.List.{List}

@@ -1,4 +1,4 @@
--- Demand 2: the two sides and the two-sided order, as the call answers. Assumes nothing.
+-- Demand 2 (RULES 21): the two sides and the two-sided order, as the call answers. Assumes nothing.
 use Prim.Native.Nat.{ℕ, suc, _≤_, _<_}
 use mathlib.Core.Path.{_≡_, refl, sym, subst, _∙_}
 use mathlib.Core.Logic.{_≢_, _↔_}
@@ -24,7 +24,7 @@ use Rattle.plan_laws.specs.Fits.{network-good}
 use Rattle.table_laws.specs.Limits.{order-once}
 use Rattle.plan_laws.specs.Answers.{Packable, packable-packing, Sidable, siding-done, siding-nine, sidable-number, sidable-siding}
 
--- The two-sided order, whatever the sides: the low side by number, then the high side by number
+-- The two-sided order, whatever the sides: first the low paths and then the high ones, each by number
 module _ (n : ℕ) (high : ℕ → Bool) (order : List ℕ) (room : n ≤ length order) where
   o : ℕ → ℕ
   o = at (twoSided n high order)
@@ -158,7 +158,7 @@ module _ (n : ℕ) (lent : Lent) (order : List ℕ) where
         → at (siding n lent order .tables) i < at (siding n lent order .tables) j
     siding-numbers i j h l = rw siding-is (sided-numbers n (isHigh net n) order room i j h l)
 
-    -- packed, its highest slot is document 01's figure, and no valid plan has a lower one
+    -- packed, its highest slot is the figure of RULES 7, and no valid plan has a lower one
     pub siding-packs : (starts : List ℕ) → length starts ≡ 128 → packing n lent (siding n lent order .tables) starts .answer .highest ≡ twoSidedHighest net n
     unfolding donePacked
     siding-packs starts size =

@@ -1,5 +1,5 @@
--- "So a read sheet written": what `read` accepts, `write` accepts, given room. Each section of an accepted sheet leaves its table as the writer's
--- tests ask. Assumes nothing.
+-- What `read` accepts, `write` accepts, given room (RULES 15). Each section of an accepted sheet leaves its
+-- table as the writer's tests ask. Assumes nothing.
 use Prim.Native.Nat.{ℕ, zero, suc, _+_, _*_, _≤_, _<_}
 use mathlib.Core.Path.{_≡_, refl, sym, ap, subst, _∙_}
 use mathlib.Core.Logic.{_≢_, _⊎_, inl, inr}
@@ -606,7 +606,7 @@ read-written text labels lent starts sizes z room long =
     e : reading text labels lent starts ≡ readOutcome x
     e = unfold reading in (unless-done (sheetSizes labels lent starts) _ _ sizes)
 
--- "So a read sheet written, read and written gives the same bytes the second time"
+-- a sheet that is read and written settles: read and written once more, it is the same bytes
 module _ (text labels : List ℕ) (lent : Lent) (starts : List ℕ) (sizes : sheetSizes labels lent starts .number ≡ 0) (z : reading text labels lent starts .answer .number ≡ 0)
     (room again : List ℕ) (long : 45489 ≤ length room) (longer : 45489 ≤ length again) where
   abbrev readOnce : Left SheetRead (List ℕ × Lent × List ℕ)

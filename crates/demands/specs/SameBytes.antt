@@ -127,8 +127,7 @@ module _ (n : ℕ) (labels : List ℕ) (lent : Lent) (starts : List ℕ) (few : 
     planned = λ e k l. rw (cell-same starts k l) (w .planned (sym plan-same ∙ e) k l);
   }
 
--- what was written, read and written again, given room, is the same bytes: with `written-read`, "a read sheet written, read and written gives the
--- same bytes the second time"
+-- what was written, read and written again, given room, is the same bytes, with `written-read`
 pub written-again : (n : ℕ) (labels : List ℕ) (lent : Lent) (starts text text′ : List ℕ) → writing n labels lent starts text .answer .number ≡ 0
     → length (sheetText n labels lent starts) ≤ length text′
     → (writing n (keptLabels n labels) (keptNetwork n lent) (keptCells n starts) text′ .answer .number ≡ 0)

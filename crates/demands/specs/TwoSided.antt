@@ -1,4 +1,5 @@
--- The two-sided order packs to document 01's figure, and no valid plan has a lower highest slot. Assumes nothing.
+-- The two-sided order packs to the figure of RULES 7, and no valid plan has a lower highest slot. Assumes
+-- nothing.
 use Prim.Native.Nat.{ℕ, _+_, _-_, _≤_, _<_}
 use mathlib.Core.Path.{_≡_, refl, sym, ap, _∙_}
 use mathlib.Core.Logic.{_≢_, _⊎_, inl, inr}

@@ -1,5 +1,6 @@
--- Programs shown unfit, as document 01 asks ("How tight the promises are"), and a network within the limits, so that the theorems are about
--- something. A program for a call is any function from what the call is given to what it leaves behind. Assumes nothing.
+-- The programs that RULES 21 wants shown unfit, and a network within the limits, so that the theorems are
+-- about something. A program for a call is any function from what the call is given to what it leaves behind.
+-- Assumes nothing.
 use Prim.Native.Nat.{ℕ, suc, _≤_}
 use mathlib.Core.Path.{_≡_, refl, sym, ap, _∙_}
 use mathlib.Core.Logic.{_≢_}

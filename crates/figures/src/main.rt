@@ -1,6 +1,7 @@
-// A test program: figures as data. Each line of standard input is a case: its name, a public call, and the numbers and tables that it is lent.
-// Each case prints a line: the name, what the call answers, and the whole of each table that the call may write. What it has to print
-// stands in `stdout`, and was not made by the code under test. The notation is explained at the head of `stdin`.
+// A test program: figures as data. Each line of standard input is a case: its name, a public call, and the
+// numbers and tables that it is lent. Each case prints a line: the name, what the call answers, and the whole
+// of each table that the call may write. What it has to print stands in `stdout`, and was not made by the
+// code under test. The notation is explained at the head of `stdin`.
 use cases::fields;
 use cases::fields::has;
 use cases::fields::lent;

@@ -1,4 +1,4 @@
--- Eight bytes as one number, so that labels "compared as bytes" are compared by one test. Assumes nothing.
+-- Eight bytes as one number, so that one test compares two labels byte for byte. Assumes nothing.
 use Prim.Native.Nat.{ℕ, zero, suc, _+_, _*_, _^_, _≤_, _<_}
 use mathlib.Core.Path.{_≡_, refl, sym, ap, _∙_}
 use mathlib.Core.Bool.{Bool, true, false}

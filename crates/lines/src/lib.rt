@@ -39,7 +39,7 @@ fn out_of_range(v: usize, most: usize) -> bool
     most < v
 }
 
-// Path k's line: 11, 12 label twice, 3 width not 1 to 64.
+// Path k's line: 11, 12 label again, 3 width outside 1 to 64 (RULES 14).
 pub fn path_step(
     text: &[u8],
     place: usize,
@@ -86,7 +86,8 @@ pub fn guard_line(text: &[u8], place: usize) -> GuardLine
     GuardLine::Pair(e, f, e2, g, h)
 }
 
-// A guard's line, over the keys of n labels: 11, 13 label unknown or paired with itself, 14 pair given twice, 4 guard over 32.
+// A guard's line, over the keys of n labels: 11, 13 no path's label or one label twice, 14 the pair again, 4
+// guard over 32.
 pub fn guard_step(text: &[u8], place: usize, n: usize, keys: &[usize], guards: &mut [u8]) -> Step
     requires { ⌜ (place ≤ length (now text)) × (n ≤ 128) × (n ≤ length (now keys)) × (length (now guards) ≡ 16384) ⌝ }
     ensures { λ r. ⌜ StepWithin (now (text .entry)) r × ((labels : List ℕ) → Keyed labels (now (keys .entry)) n
@@ -120,7 +121,7 @@ pub fn guard_step(text: &[u8], place: usize, n: usize, keys: &[usize], guards: &
     Step::On(next)
 }
 
-// Path k's start, over the keys of n labels: 11, 13 label not the path's, 7 start not 1 to 16,384.
+// Path k's start, over the keys of n labels: 11, 13 not its label, 7 start outside 1 to 16,384.
 pub fn start_step(
     text: &[u8],
     place: usize,

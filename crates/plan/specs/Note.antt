@@ -1,4 +1,5 @@
--- The line that `--verbose` adds on standard error, as `planned 3 paths, 2 pairs, highest slot 9, two sides`. Assumes nothing.
+-- The line that `--verbose` adds on standard error, as `planned 3 paths, 2 pairs, highest slot 9, two sides`.
+-- Assumes nothing.
 use Prim.Native.Nat.{ℕ, _≤_, min}
 use mathlib.Core.Path.{_≡_, refl}
 use mathlib.Core.Bool.{Bool, true, false, cond}
@@ -10,7 +11,8 @@ use Rattle.rules.specs.Text.{bytes, spell, numeral}
 use Rattle.rules.specs.Writing.{pairs}
 use Rattle.rules.specs.Calls.{reading, planning, siding}
 
--- some words and a number. A number over 99,999 would stand as that; none is: a highest slot is at most 12,256, and 1,000 rounds are run
+-- some words and a number. A number over 99,999 would stand as that; none is: a highest slot is at most
+-- 12,256, and 1,000 rounds are run
 unfoldable pub part : List ℕ → ℕ → List ℕ
 part w v = w ++ numeral (min v 99999)
 
@@ -22,7 +24,8 @@ unfoldable pub noteText : ℕ → ℕ → ℕ → Bool → ℕ → List ℕ
 noteText n conflicts highest sided kept =
     part (bytes "planned ") n ++ (part (bytes " paths, ") conflicts ++ (part (bytes " pairs, highest slot ") highest ++ ending sided kept))
 
--- of a network and starts that stood in the sheet: what the program's planning answers, and whether there are two sides
+-- of a network and starts that stood in the sheet: what the program's planning answers, and whether there are
+-- two sides
 unfoldable pub noteOf : ℕ → Lent → List ℕ → List ℕ
 noteOf n lent starts =
     let planned = planning n lent (cleared 128 0) starts 1 1000 in
@@ -35,8 +38,8 @@ noted input =
     let sheet = reading input (cleared 1024 0) (lend (cleared 128 0) (cleared 16384 0)) (cleared 128 0) in
     cond (eqb (sheet .answer .number) 0) (noteOf (sheet .answer .n) (sheet .tables .1) (sheet .tables .2)) []
 
--- r bytes of a lent text are the text that the program makes of an input. Where the input has 65,536 bytes or more, whatever comes after
--- them changes nothing
+-- r bytes of a lent text are the text that the program makes of an input. Where the input has 65,536 bytes or
+-- more, whatever comes after them changes nothing
 pub record Made (text : List ℕ → List ℕ) (input : List ℕ) (r : ℕ) (out : List ℕ) : Type 0 where
   pub within : r ≤ length out
   pub front : r ≡ length (take r out)

@@ -1,8 +1,9 @@
-// One run of the plan program: it reads a sheet from standard input, plans with seed 1 and 1,000 rounds, and prints the sheet with its starts,
-// or the line of a refusal. With the argument `--verbose` a line on standard error says what was planned.
+// One run of the plan program: it reads a sheet from standard input, plans with seed 1 and 1,000 rounds, and
+// prints the sheet with its starts, or the line of a refusal. With the argument `--verbose` a line on
+// standard error says what was planned.
 //
-// From the bytes read to the bytes printed all is proved (`answer`). `main` is calls alone: that it lends `answer` what standard input
-// held, and writes what `answer` made, is seen by examples/check.
+// From the bytes read to the bytes printed all is proved (`answer`). `main` is calls alone: that it lends
+// `answer` what standard input held, and writes what `answer` made, is seen by examples/check.
 mod note;
 
 use libc::STDERR_FILENO;
@@ -16,7 +17,8 @@ ghost use Rattle.rules.specs.Tables.{lend};
 ghost use Rattle.rules.specs.Program.{plannedText, printed};
 ghost use Rattle.plan.specs.Note.{noteOf, noted, Made};
 
-// How many bytes are for standard output, and how many for the line on standard error: none where the sheet is refused.
+// How many bytes are for standard output, and how many for the line on standard error: none where the sheet
+// is refused.
 struct Lengths {
     out: usize,
     line: usize,
@@ -32,9 +34,14 @@ fn planned(
     out: &mut [u8],
     line: &mut [u8],
 ) -> Lengths
-    requires { ⌜ (n ≤ 128) × (length (now guards) ≡ 16384) × (length (now out) ≡ 45489) × (length (now line) ≡ 80) ⌝ }
-    ensures { λ r. ⌜ (take (r .out) (now (out .exit)) ≡ plannedText n (now (labels .entry)) (lend (now (widths .entry)) (now (guards .entry))) (now (starts .entry))) × (r .out ≤ 45489) ⌝ }
-    ensures { λ r. ⌜ (take (r .line) (now (line .exit)) ≡ noteOf n (lend (now (widths .entry)) (now (guards .entry))) (now (starts .entry))) × (r .line ≤ 80) ⌝ }
+    requires { ⌜ (n ≤ 128) × (length (now guards) ≡ 16384)
+        × (length (now out) ≡ 45489) × (length (now line) ≡ 80) ⌝ }
+    ensures { λ r. ⌜ (take (r .out) (now (out .exit))
+        ≡ plannedText n (now (labels .entry)) (lend (now (widths .entry)) (now (guards .entry))) (now (starts .entry)))
+        × (r .out ≤ 45489) ⌝ }
+    ensures { λ r. ⌜ (take (r .line) (now (line .exit))
+        ≡ noteOf n (lend (now (widths .entry)) (now (guards .entry))) (now (starts .entry)))
+        × (r .line ≤ 80) ⌝ }
 {
     let mut order = [0u8; rules::PATHS];
     let plan = planning::plan(n, widths, guards, &mut order, starts, 1, 1000);
@@ -46,8 +53,9 @@ fn planned(
     }
 }
 
-// From the input to what is printed: so many bytes of a lent text that has room for the longest sheet, and of a lent line. The four tables are
-// for the work. Where the input has 65,536 bytes or more, whatever comes after them changes nothing.
+// From the input to what is printed: so many bytes of a lent text that has room for the longest sheet, and of
+// a lent line. The four tables are for the work. Where the input has 65,536 bytes or more, whatever comes
+// after them changes nothing.
 fn answer(
     input: &[u8],
     labels: &mut [u8],
@@ -57,7 +65,8 @@ fn answer(
     out: &mut [u8],
     line: &mut [u8],
 ) -> Lengths
-    requires { ⌜ (length (now labels) ≡ 1024) × (length (now widths) ≡ 128) × (length (now guards) ≡ 16384) × (length (now starts) ≡ 128) × (length (now out) ≡ 45489) × (length (now line) ≡ 80) ⌝ }
+    requires { ⌜ (length (now labels) ≡ 1024) × (length (now widths) ≡ 128) × (length (now guards) ≡ 16384)
+        × (length (now starts) ≡ 128) × (length (now out) ≡ 45489) × (length (now line) ≡ 80) ⌝ }
     ensures { λ r. ⌜ Made printed (now (input .entry)) (r .out) (now (out .exit)) ⌝ }
     ensures { λ r. ⌜ Made noted (now (input .entry)) (r .line) (now (line .exit)) ⌝ }
 {
@@ -106,8 +115,8 @@ fn respond(input: &[u8], verbose: bool) {
     }
 }
 
-// The text holds the first 65,536 bytes of the input, more than the longest sheet has. Its answer is the answer for the whole input, as
-// `answer` promises.
+// The text holds the first 65,536 bytes of the input, more than the longest sheet has. Its answer is the
+// answer for the whole input, as `answer` promises.
 fn run(verbose: bool) {
     let mut text = io::large_buffer();
     let input = console::read_all(STDIN_FILENO, &mut text);

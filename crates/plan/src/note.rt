@@ -58,7 +58,9 @@ pub fn note(
     line: &mut [u8],
 ) -> usize
     requires { ⌜ (n ≤ 128) × (length (now guards) ≡ 16384) × (80 ≤ length (now line)) ⌝ }
-    ensures { λ r. ⌜ Wrote (now (line .entry)) 0 (noteText n (pairs n (now (guards .entry))) highest (eqb (siding n (lend (now (widths .entry)) (now (guards .entry))) (cleared 128 0) .answer .number) 0) kept) r (now (line .exit)) ⌝ }
+    ensures { λ r. ⌜ Wrote (now (line .entry)) 0 (noteText n (pairs n (now (guards .entry))) highest
+        (eqb (siding n (lend (now (widths .entry)) (now (guards .entry))) (cleared 128 0) .answer .number) 0) kept)
+        r (now (line .exit)) ⌝ }
     ensures { λ r. ⌜ r ≤ 80 ⌝ }
 {
     let mut order = [0u8; rules::PATHS];

@@ -12,7 +12,7 @@ use Rattle.plan_laws.specs.Lowest.{lowest-le}
 use Rattle.plan_laws.specs.Plans.{everywhere, packs}
 use Rattle.plan_laws.specs.Heights.{highest-le}
 
--- the limits of document 01, and a bound on the lowest starts
+-- the limits (RULES 3), and a bound on the lowest starts
 pub record Within (net : Net) (n : ℕ) (bottom : ℕ) : Type 0 where
   pub narrow : (k : ℕ) → k < n → net .width k ≤ 64
   pub near : (i j : ℕ) → i < n → j < n → Conflict net i j → net .guard i j ≤ 32

@@ -1,4 +1,5 @@
--- Judging: a plan is called valid exactly when document 01 calls it so, and document 01's Valid is 001's set distance. Assumes nothing.
+-- Judging: a plan is called valid exactly when RULES 4 calls it so, and that is 001's set distance. Assumes
+-- nothing.
 use Prim.Native.Nat.{ℕ, _+_, _-_, _≤_, _<_}
 use mathlib.Core.Path.{_≡_, refl}
 use mathlib.Core.Logic.{_⊎_, inl, inr}

@@ -1,4 +1,4 @@
--- Document 01's rule: it is monotone, and what respects it. Assumes nothing.
+-- The rule of packing (RULES 5): it is monotone, and what respects it. Assumes nothing.
 use Prim.Native.Nat.{ℕ, zero, suc, _-_, _≤_, _<_, max}
 use mathlib.Core.Path.{_≡_, refl}
 use mathlib.Core.Bool.{Bool, true, false, cond}

@@ -1,5 +1,5 @@
--- Document 01, "The better of two": "of two lent orders, the first n entries of the one with the lower highest slot are handed back, that part
--- itself and no copy; on equality, of the first. The part is empty exactly when a packing of either would be refused." Assumes nothing.
+-- RULES 11, the better of two orders: the first n entries of the one that packs lower, of equal ones the
+-- first, where they stand in the lent table; none where one of the two cannot be packed. Assumes nothing.
 use Prim.Native.Nat.{ℕ}
 use mathlib.Core.Path.{_≡_}
 use mathlib.Core.Bool.{Bool, cond, _||_, not}

@@ -1,5 +1,5 @@
--- The public calls: for each one definition from what it is given to all that it leaves behind. "A refusal leaves every lent table unchanged,
--- except that the reader's refusals other than 2 leave its tables cleared"; "Other numbers in a refused answer are 0." Assumes nothing.
+-- RULES 16: for each public call one definition from what it is given to all that it leaves behind. A refused
+-- call changes no table, but for the reader (RULES 14), and its other numbers are 0. Assumes nothing.
 use Prim.Native.Nat.{ℕ}
 use mathlib.Core.Bool.{Bool, cond}
 use mathlib.Core.List.{List, [], _++_}
@@ -35,7 +35,7 @@ left answer tables = record { answer = answer; tables = tables }
 unfoldable pub unless : {A : Type 0} → Fault → (Fault → A) → A → A
 unless f refused result = cond (eqb (f .number) 0) result (refused f)
 
--- judge(n, widths, guards, starts): "the number and place alone"
+-- judge(n, widths, guards, starts): nothing beside number and place
 unfoldable pub judging : ℕ → Lent → List ℕ → Fault
 judging n lent starts = judgeFault n lent starts
 
@@ -84,8 +84,8 @@ improving n lent order starts seed rounds =
     unless (improveFault n lent order starts rounds) (refusedPlanned order starts)
     (doneImproved (netOf lent) n order starts seed rounds)
 
--- plan(n, widths, guards, order, starts, seed, rounds): "the two-sided order if there are sides, with no rounds run; otherwise the greedy order,
--- improved. It answers as improving does, with 0 kept where no rounds run."
+-- plan(n, widths, guards, order, starts, seed, rounds), RULES 10: with sides the two-sided order and none
+-- kept, else the greedy order, improved
 unfoldable pub donePlan : Net → ℕ → List ℕ → List ℕ → ℕ → ℕ → Left Planned (List ℕ × List ℕ)
 donePlan net n order starts seed rounds =
     cond (hasSides net n)
@@ -104,8 +104,8 @@ flooring n lent list =
     (λ f. record { number = f .number; place = f .place; floor = 0 })
     (record { number = 0; place = 0; floor = floor (netOf lent) (at list) (length list) })
 
--- read(text, labels, widths, guards, starts), which writes all four tables. "On success the reader also clears what lies past n": a sheet is
--- read over cleared tables, "widths and starts 0, guards 255, labels 0", and a refusal leaves these
+-- read(text, labels, widths, guards, starts), RULES 14, which writes all four tables. A sheet is read over
+-- cleared ones, so that all cells past n are cleared, and a refusal leaves nothing else
 unfoldable pub readOutcome : Section (ℕ × List ℕ × Lent × List ℕ) → Left SheetRead (List ℕ × Lent × List ℕ)
 readOutcome (halt number line) =
     left (record { number = number; place = line; n = 0 }) (cleared 1024 0, clearedNetwork, cleared 128 0)
@@ -117,8 +117,8 @@ reading text labels lent starts =
     (λ f. left (record { number = f .number; place = f .place; n = 0 }) (labels, lent, starts))
     (readOutcome (sheetFrom (cleared 1024 0) clearedNetwork (cleared 128 0) text))
 
--- write(n, labels, widths, guards, starts, text), which writes the text: "It answers the sheet's length and leaves the lent text past that
--- length unchanged"
+-- write(n, labels, widths, guards, starts, text), RULES 15, which writes the text, and nothing past the
+-- sheet's length
 unfoldable pub writing : ℕ → List ℕ → Lent → List ℕ → List ℕ → Left SheetWritten (List ℕ)
 writing n labels lent starts text =
     let sheet = sheetText n labels lent starts in

@@ -1,5 +1,5 @@
--- Document 01, "Figures to hold it against": P1 to P10 as a single table under a single statement, and the worked example of the plan
--- program, each computed from the definitions over tables of full size. Assumes nothing.
+-- RULES 20: P1 to P10 as one table under one statement, and the example of the plan program, each computed
+-- from the definitions over tables of full size. Assumes nothing.
 use Prim.Native.Nat.{ℕ}
 use mathlib.Core.Path.{_≡_, refl}
 use mathlib.Core.List.{List, [], _∷_, _++_}
@@ -26,7 +26,7 @@ use Rattle.rules.specs.Program.{refusalText, plannedText, printed}
 unfoldable pub withGuard : ℕ → ℕ → ℕ → List ℕ → List ℕ
 withGuard i j g guards = set (set guards (cell i j) g) (cell j i) g
 
--- "T: widths 2, 4, 3; guards 0-1 is 1, 1-2 is 2, 0-2 is 0"
+-- network T of RULES 20
 unfoldable pub widthsT : List ℕ
 widthsT = 2 ∷ 4 ∷ 3 ∷ replicate 125 0
 
@@ -53,11 +53,11 @@ judgedRow r = r .number ∷ r .place ∷ []
 packT : List ℕ → List ℕ
 packT order = packedRow (packing 3 netT order (three 0 0 0))
 
--- the greedy order of T, by document 01's packing
+-- the greedy order of T (RULES 8)
 greedyT : List ℕ
 greedyT = greedy (lowest (netOf netT)) 3 (three 0 0 0) (three 0 0 0) 3
 
--- P8: "Widths 2 and 2, guard 1"
+-- P8: two paths of width 2 with guard 1, judged
 judgeTwo : ℕ → ℕ → List ℕ
 judgeTwo a b = judgedRow (judging 2 (lend (three 2 2 0) (withGuard 0 1 1 (cleared 16384 255))) (three a b 0))
 

@@ -1,10 +1,10 @@
--- Document 01, "Floor": "whoever proposes a list of 1 to 8 distinct paths, all in conflict with each other, gets its widths added plus (k-1)
--- times the least guard among them, k being its length; one path gives its width." Assumes nothing.
+-- RULES 12: the floor of a list of paths, each two in conflict: all their widths and, for each gap between
+-- two blocks, the least guard of the list. Assumes nothing.
 use Prim.Native.Nat.{ℕ, _+_, _-_, _*_, _<_}
 use Rattle.rules.specs.Scan.{least, sum}
 use Rattle.rules.specs.Plan.{Net, Conflict}
 
--- k paths of the network, all in conflict with each other
+-- k paths of the network, each two in conflict
 pub record Clique (net : Net) (n : ℕ) (list : ℕ → ℕ) (k : ℕ) : Type 0 where
   pub inside : (i : ℕ) → i < k → list i < n
   pub all : (i j : ℕ) → i < j → j < k → Conflict net (list i) (list j)

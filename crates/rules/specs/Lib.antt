@@ -1,27 +1,27 @@
--- Document 01 as definitions, in its order.
--- The tables and their sizes
+-- docs/RULES.md as definitions, in its order.
+-- Tables and limits: RULES 3; the scans: RULES 18
 pub mod Tables
 pub mod Limits
 pub mod Scan
--- Rules of a plan
+-- Plans: RULES 4 to 10, and 12
 pub mod Plan
 pub mod Packing
 pub mod Pressing
 pub mod Sides
 pub mod Planning
 pub mod Floor
--- The sheet
+-- The sheet: RULES 13 to 15
 pub mod Text
 pub mod Sheet
 pub mod Writing
--- Numbers returned
+-- The numbers and the order of the tests: RULES 17 and 18
 pub mod Numbers
 pub mod Refusing
--- The calls: all that each one leaves behind
+-- The calls, and all that each one leaves behind: RULES 16, and 11
 pub mod Calls
 pub mod Better
--- One run of the plan program
+-- The plan program: RULES 19
 pub mod Program
--- Figures to hold it against
+-- The figures: RULES 20
 pub mod Figures
 pub mod Worked

@@ -1,4 +1,5 @@
--- Document 01, "The tables and their sizes", as statements: what the theorems speak of, and what the tests have to accept exactly. Assumes nothing.
+-- RULES 3 as statements: what the theorems speak of, and what the tests have to accept exactly. Assumes
+-- nothing.
 use Prim.Native.Nat.{ℕ, _≤_, _<_}
 use mathlib.Core.Path.{_≡_}
 use mathlib.Core.Logic.{_⊎_}
@@ -6,8 +7,7 @@ use mathlib.Core.List.{List}
 use lib.ListN.{length}
 use Rattle.rules.specs.Tables.{at, cell, Lent}
 
--- "n is 1 to 128"; widths "128 numbers of 16 bits, each 1 to 64 slots"; guards "16,384 bytes", each 0 to 32 or 255, "The diagonal is 255. Cells
--- of i,j and j,i are equal."
+-- a network within its limits: how many paths, the sizes of its tables, and what their cells hold
 pub record Network (n : ℕ) (lent : Lent) : Type 0 where
   pub some : 1 ≤ n
   pub few : n ≤ 128
@@ -18,7 +18,7 @@ pub record Network (n : ℕ) (lent : Lent) : Type 0 where
   pub diagonal : (k : ℕ) → k < n → at (lent .guards) (cell k k) ≡ 255
   pub mirrored : (i j : ℕ) → i < n → j < n → at (lent .guards) (cell i j) ≡ at (lent .guards) (cell j i)
 
--- "Starts: 128 numbers of 16 bits, each 1 to 16,384"
+-- starts within their limits
 pub record Starts (n : ℕ) (starts : List ℕ) : Type 0 where
   pub size : length starts ≡ 128
   pub start : (k : ℕ) → k < n → (1 ≤ at starts k) × (at starts k ≤ 16384)

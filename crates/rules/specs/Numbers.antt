@@ -1,4 +1,5 @@
--- Document 01, "Numbers returned": each test with its number and place, and the order of the tests of each call. Assumes nothing.
+-- RULES 17 and 18: each test with its number and place, and the order of the tests of each call. Assumes
+-- nothing.
 use Prim.Native.Nat.{ℕ, _+_, _*_}
 use mathlib.Core.Bool.{Bool, cond, not, _&&_, _||_}
 use mathlib.Core.List.{List}
@@ -16,7 +17,7 @@ infixr 20 _orElse_
 abbrev pub fault : ℕ → ℕ → Fault
 fault number place = record { number = number; place = place }
 
--- "0: done", place 0
+-- 0 with place 0: nothing is at fault
 abbrev pub noFault : Fault
 noFault = fault 0 0
 
@@ -28,7 +29,8 @@ refuseIf bad number place = cond bad (fault number place) noFault
 unfoldable pub _orElse_ : Fault → Fault → Fault
 a orElse b = cond (eqb (a .number) 0) b a
 
--- "each scan goes from the lowest index, by i then j": the fault at the first bad index below n; at the first bad cell of the square
+-- a test of paths or positions finds its first bad index below n, one of the square its first bad cell, row
+-- by row
 unfoldable pub scan : ℕ → (ℕ → Bool) → ℕ → Fault
 scan number bad n = refuseIf (found bad n) number (first bad n)
 
@@ -38,53 +40,54 @@ square number bad n = refuseIf (foundPair bad n) number (cell (firstRow bad n) (
 abbrev pub outside : ℕ → ℕ → ℕ → Bool
 outside least most x = ltb x least || ltb most x
 
--- 1: n not 1 to 128
+-- 1: n outside 1 to 128
 unfoldable pub countFault : ℕ → Fault
 countFault n = refuseIf (outside 1 128 n) 1 0
 
--- 2: a lent table is not of its size
+-- 2: a table has not its size
 unfoldable pub sizeFault : List ℕ → ℕ → Fault
 sizeFault table size = refuseIf (not (eqb (length table) size)) 2 0
 
--- 3: width not 1 to 64
+-- 3: a width outside 1 to 64
 abbrev pub badWidth : List ℕ → ℕ → Bool
 badWidth widths k = outside 1 64 (at widths k)
 
--- 4: guard cell not 0 to 32 or 255, diagonal not 255
+-- 4: a cell that is neither a guard of 0 to 32 nor 255; on the diagonal all but 255
 abbrev pub badGuard : List ℕ → ℕ → ℕ → Bool
 badGuard guards i j = not (eqb (at guards (cell i j)) 255) && (eqb i j || ltb 32 (at guards (cell i j)))
 
--- 5: cell with i<j unequal to its mirror
+-- 5: a cell above the diagonal that differs from its mirror
 abbrev pub badMirror : List ℕ → ℕ → ℕ → Bool
 badMirror guards i j = ltb i j && not (eqb (at guards (cell i j)) (at guards (cell j i)))
 
--- 6: order entry n or more, or seen earlier
+-- 6: an entry that is no path, or that comes a second time
 abbrev pub badEntry : ℕ → List ℕ → ℕ → Bool
 badEntry n order k = leb n (at order k) || placed (at order) k (at order k)
 
 unfoldable pub orderFault : ℕ → List ℕ → Fault
 orderFault n order = scan 6 (badEntry n order) n
 
--- 7: start not 1 to 16,384
+-- 7: a start outside 1 to 16,384
 abbrev pub badStart : List ℕ → ℕ → Bool
 badStart starts k = outside 1 16384 (at starts k)
 
 unfoldable pub startFault : ℕ → List ℕ → Fault
 startFault n starts = scan 7 (badStart starts) n
 
--- 8: first conflicting pair, i<j, too close
+-- 8: a conflicting pair that is too close, with its cell above the diagonal
 unfoldable pub clashFault : ℕ → Net → List ℕ → Fault
 clashFault n net starts = square 8 (tooClose net (at starts)) n
 
--- 9: no two sides
+-- 9: the network has no sides
 unfoldable pub sidesFault : ℕ → Net → Fault
 sidesFault n net = refuseIf (not (hasSides net n)) 9 0
 
--- 10: rounds over 10,000
+-- 10: more than 10,000 rounds
 unfoldable pub roundsFault : ℕ → Fault
 roundsFault rounds = refuseIf (ltb 10000 rounds) 10 0
 
--- 15: list empty or over 8, place 0; or entry out of range, repeated or not in conflict with an earlier one
+-- 15: a list of wrong length, place 0; an entry that is no path, comes again, or has no conflict with an
+-- earlier one
 abbrev pub badMember : ℕ → Net → List ℕ → ℕ → Bool
 badMember n net list k = leb n (at list k) || found (λ i. eqb (at list i) (at list k) || not (inConflict net (at list i) (at list k))) k
 
@@ -95,14 +98,14 @@ listFault n net list = refuseIf (outside 1 8 (length list)) 15 0 orElse scan 15 
 unfoldable pub networkSizes : Lent → Fault
 networkSizes lent = sizeFault (lent .widths) 128 orElse sizeFault (lent .guards) 16384
 
--- 1, 3, 4, 5: "4 is scanned over the whole square before 5"
+-- 1, 3, 4, 5, in this order: all of 4 before 5
 unfoldable pub networkFault : ℕ → Lent → Fault
 networkFault n lent =
     countFault n orElse scan 3 (badWidth (lent .widths)) n orElse square 4 (badGuard (lent .guards)) n
     orElse square 5 (badMirror (lent .guards)) n
 
--- "Order for table calls: 2, 1, 3, 4, 5, then 6, 7, 8, 10, 15, 9 where they apply." The first five are the same for every call; sizes is 2 of the
--- tables that it is lent beside the network
+-- RULES 18: 2, 1, 3, 4, 5 are the same for every call that is lent a network; sizes is 2 of the tables that
+-- it is lent beside the network
 unfoldable pub lentFault : ℕ → Lent → Fault → Fault
 lentFault n lent sizes = networkSizes lent orElse sizes orElse networkFault n lent
 
@@ -141,7 +144,7 @@ labelSizes labels starts = sizeFault labels 1024 orElse sizeFault starts 128
 unfoldable pub sheetSizes : List ℕ → Lent → List ℕ → Fault
 sheetSizes labels lent starts = networkSizes lent orElse labelSizes labels starts
 
--- "The writer: 2, 1 for n, 3, 4, 5, 11, 12, 1 for pairs, 7, 16." It tests the starts only where it writes them
+-- RULES 18, the writer's tests. It tests the starts only where it writes them
 unfoldable pub writeFault : ℕ → List ℕ → Lent → List ℕ → List ℕ → Fault
 writeFault n labels lent starts text =
     lentFault n lent (labelSizes labels starts)

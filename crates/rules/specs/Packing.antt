@@ -1,4 +1,4 @@
--- Document 01, "Packing an order". An order is the function from a position to the path that stands there. Assumes nothing.
+-- RULES 5. An order is the function from a position to the path that stands there. Assumes nothing.
 use Prim.Native.Nat.{ℕ, zero, suc, _+_, _-_, _≤_, _<_, max}
 use mathlib.Core.Path.{_≡_}
 use mathlib.Core.Logic.{_≢_}
@@ -14,12 +14,13 @@ use Rattle.rules.specs.Plan.{Net, inConflict, end, highest}
 unfoldable pub placed : (ℕ → ℕ) → ℕ → ℕ → Bool
 placed order m k = found (λ i. eqb (order i) k) m
 
--- "the first n hold each of 0 to n-1 once", as it is tested: the first m entries are below n and none equals an earlier one. In a whole order m is n
+-- an order as it is tested: its first m entries are below n and none equals an earlier one. In a whole order
+-- m is n
 pub record Order (order : ℕ → ℕ) (n m : ℕ) : Type 0 where
   pub inside : (i : ℕ) → i < m → order i < n
   pub fresh : (i j : ℕ) → i < j → j < m → order i ≢ order j
 
--- those words themselves
+-- an order as it is meant: each path below n stands at one of the n positions, and at no second one
 pub record Once (order : ℕ → ℕ) (n : ℕ) : Type 0 where
   pub holds : (k : ℕ) → k < n → (i : ℕ) × (i < n) × (order i ≡ k)
   pub once : (i j : ℕ) → i < n → j < n → order i < n → order i ≡ order j → i ≡ j
@@ -40,12 +41,13 @@ past net j k s = end net j s + net .guard j k + 1
 unfoldable pub reach : Net → ℕ → ℕ → ℕ → ℕ
 reach net j k s = cond (inConflict net j k) (past net j k s) 0
 
--- "each start is the largest of 1 and end + guard + 1 over the conflicting paths earlier in it"
+-- the start of path k after the first m of an order: its lowest, or past all of those that are in conflict
+-- with it
 unfoldable pub lowest : Net → Rule
 lowest net plan order zero k = net .low k
 lowest net plan order (suc m) k = max (lowest net plan order m k) (reach net (order m) k (plan (order m)))
 
--- "in that order": the table with the starts of the first m paths of the order, by a rule
+-- the table with the starts of the first m paths of the order, each by the rule over those before it
 unfoldable pub packed : Rule → (ℕ → ℕ) → List ℕ → ℕ → List ℕ
 packed rule order table zero = table
 packed rule order table (suc m) = let s = packed rule order table m in set s (order m) (rule (at s) order m (order m))

@@ -1,5 +1,5 @@
--- Document 01, "Rules of a plan": what a network is, the end of a path, the highest slot, and what makes a plan valid. A plan is the function
--- from a path to its start. Assumes nothing.
+-- RULES 4: what a network is, the end of a path, the highest slot, and what makes a plan valid. A plan is the
+-- function from a path to its start. Assumes nothing.
 use Prim.Native.Nat.{ℕ, _+_, _-_, _≤_, _<_, max}
 use mathlib.Core.Logic.{_⊎_}
 use mathlib.Core.Bool.{Bool, not, _||_, _&&_}
@@ -17,29 +17,30 @@ pub record Net : Type 0 where
 abbrev pub netOf : Lent → Net
 netOf lent = record { width = at (lent .widths); guard = λ i j. at (lent .guards) (cell i j); low = λ k. 1 }
 
--- "A value 0 to 32 is a conflict with that guard; 255 is no conflict. A guard of 0 is still a conflict." No other value passes the tests
+-- each guard is a conflict, 0 too; 255 is none, and the tests let no other value pass (RULES 3)
 abbrev pub Conflict : Net → ℕ → ℕ → Type 0
 Conflict net i j = net .guard i j < 255
 
 abbrev pub inConflict : Net → ℕ → ℕ → Bool
 inConflict net i j = ltb (net .guard i j) 255
 
--- "The end of a path is start + width - 1": of path k, if it starts at s
+-- the last slot of path k, if it starts at s
 abbrev pub end : Net → ℕ → ℕ → ℕ
 end net k s = s + net .width k - 1
 
--- "The highest slot is the largest end"
+-- the highest slot in use
 unfoldable pub highest : Net → (ℕ → ℕ) → ℕ → ℕ
 highest net plan n = largest (λ k. end net k (plan k)) n
 
--- path j starts above path i's end plus their guard
+-- path j lies above path i, with at least their guard between the two
 abbrev pub Clear : Net → (ℕ → ℕ) → ℕ → ℕ → Type 0
 Clear net plan i j = end net i (plan i) + net .guard i j < plan j
 
 abbrev pub isClear : Net → (ℕ → ℕ) → ℕ → ℕ → Bool
 isClear net plan i j = ltb (end net i (plan i) + net .guard i j) (plan j)
 
--- "Valid (001, section III): for each conflicting pair one starts above the other's end plus their guard." No start is below the lowest
+-- RULES 4: of each conflicting pair one path is clear above the other. And no start is below the path's
+-- lowest
 pub record Valid (net : Net) (n : ℕ) (plan : ℕ → ℕ) : Type 0 where
   pub lows : (k : ℕ) → k < n → net .low k ≤ plan k
   pub apart : (i j : ℕ) → i < j → j < n → Conflict net i j → Clear net plan i j ⊎ Clear net plan j i
@@ -48,9 +49,10 @@ pub record Valid (net : Net) (n : ℕ) (plan : ℕ → ℕ) : Type 0 where
 unfoldable pub tooClose : Net → (ℕ → ℕ) → ℕ → ℕ → Bool
 tooClose net plan i j = ltb i j && (inConflict net i j && not (isClear net plan i j || isClear net plan j i))
 
--- 001's own words, its equations (2) and (3): path k's slots are one block, plan k + a for each a below its width, and for each conflicting
--- pair the least of |s - t| - 1 over the slots s of the one and t of the other is at least the guard. Blocks that overlap have the
--- distance -1, so both sides stand here with 1 added: the least of |s - t| is above the guard.
+-- The published rule (001, equations 2 and 3; RULES 4): path k's slots are one block, plan k + a for each a
+-- below its width, and the distance of a conflicting pair, the least |s - t| - 1 over a slot s of the one and
+-- a slot t of the other, is at least the guard. It is -1 where blocks overlap, so both sides stand here with
+-- 1 added: the least |s - t| is above the guard.
 unfoldable pub between : ℕ → ℕ → ℕ
 between s t = max (s - t) (t - s)
 

@@ -1,4 +1,4 @@
--- Document 01, "Greedy order", "Planning" and "Improving". Assumes nothing.
+-- RULES 8 to 10: the greedy order, the draws and the rounds. Assumes nothing.
 use Prim.Native.Nat.{ℕ, zero, suc, _+_, _*_, _/_, _%_}
 use mathlib.Core.Bool.{cond}
 use mathlib.Core.List.{List}
@@ -9,19 +9,18 @@ use Rattle.rules.specs.Plan.{Net}
 use Rattle.rules.specs.Packing.{Rule, packed, height}
 use Rattle.rules.specs.Pressing.{arranged}
 
--- "again and again append the path whose packed start would be lowest, ties to the lowest number": the key of path k is the start that the rule
--- gives it after the order so far
+-- RULES 8, the greedy order: the key of path k is the start that the rule gives it after the order so far
 abbrev pub startNext : Rule → List ℕ → List ℕ → ℕ → ℕ → ℕ
 startNext rule table s i k = rule (at (packed rule (at s) table i)) (at s) i k
 
 abbrev pub greedy : Rule → ℕ → List ℕ → List ℕ → ℕ → List ℕ
 greedy rule n table order m = arranged (startNext rule table) n order m
 
--- "A draw replaces the state x by 1664525x + 1013904223, wrapped at 32 bits"
+-- RULES 9, a draw: the next state, in 32 bits
 unfoldable pub draw : ℕ → ℕ
 draw x = (1664525 * x + 1013904223) % 4294967296
 
--- "then takes (x / 65536) times n / 65536, whole parts"
+-- and the place below n that the upper 16 bits of the state give
 unfoldable pub drawnPlace : ℕ → ℕ → ℕ
 drawnPlace n x = x / 65536 * n / 65536
 
@@ -43,7 +42,7 @@ stateAfter r = draw (draw (r .state))
 unfoldable pub tried : ℕ → Run → List ℕ
 tried n r = swapped (r .order) (drawnPlace n (draw (r .state))) (drawnPlace n (stateAfter r))
 
--- "each round draws two places, swaps them, packs, and keeps the swap only if the highest slot is strictly lower". `highestOf` packs
+-- RULES 9, a round: the order that is tried stays only where it lowers the highest slot. `highestOf` packs
 unfoldable pub round : (List ℕ → ℕ) → ℕ → Run → Run
 round highestOf n r =
     cond (ltb (highestOf (tried n r)) (r .highest))

@@ -1,6 +1,5 @@
--- Document 01, "One run of the plan program": "It reads a sheet from standard input, plans with seed 1 and 1,000 rounds, and prints the sheet
--- with its starts; starts in the input are read, tested and replaced. Refused, it prints one line, `refused 11 line 3` in that form: the
--- number, then the line." Assumes nothing.
+-- RULES 19, the plan program: from the bytes of its input to the bytes that it prints, a sheet with its plan
+-- or one line for a refusal. Assumes nothing.
 use Prim.Native.Nat.{ℕ}
 use mathlib.Core.Bool.{Bool, cond}
 use mathlib.Core.List.{List, _++_}
@@ -13,7 +12,7 @@ use Rattle.rules.specs.Calls.{reading, planning, writing}
 unfoldable pub refusalText : ℕ → ℕ → List ℕ
 refusalText number line = bytes "refused " ++ (numeral number ++ (bytes " line " ++ (numeral line ++ lineFeed)))
 
--- the sheet of n paths with the starts that are planned for them; "The longest sheet has 45,489 bytes"
+-- the sheet of n paths with the starts that are planned for them, in room for the longest sheet (RULES 13)
 unfoldable pub plannedText : ℕ → List ℕ → Lent → List ℕ → List ℕ
 plannedText n labels lent starts =
     let planned = planning n lent (cleared 128 0) starts 1 1000 in

@@ -1,5 +1,5 @@
--- The one scan behind every test: "each scan goes from the lowest index". Also the largest, the least and the sum of what stands below an index.
--- Assumes nothing.
+-- The one scan behind every test, from the lowest index up (RULES 18). Also the largest, the least and the
+-- sum of what stands below an index. Assumes nothing.
 use Prim.Native.Nat.{ℕ, zero, suc, _+_, max, min}
 use mathlib.Core.Bool.{Bool, cond}
 use lib.Dec.{ltb}

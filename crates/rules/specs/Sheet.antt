@@ -1,4 +1,5 @@
--- Document 01, "The sheet", as it is read: its lines, its sections in their fixed order, and the first line at fault. Assumes nothing.
+-- RULES 13 and 14, the sheet as it is read: its lines, its sections, and the first line at fault. Assumes
+-- nothing.
 use Prim.Native.Nat.{ℕ, zero, suc, _+_, _*_}
 use mathlib.Core.Bool.{Bool, cond, not, _&&_, _||_}
 use mathlib.Core.List.{List, [], _∷_}
@@ -9,7 +10,7 @@ use Rattle.rules.specs.Tables.{at, cell, Lent, lend, labelByte}
 use Rattle.rules.specs.Scan.{first, found}
 use Rattle.rules.specs.Text.{Parsed, none, some, then, word, space, lineFeed, pathsWord, guardsWord, startsWord, label, number}
 
--- "A label .. compared as bytes": path k's eight bytes are those of w, "filled at the end with zero bytes"
+-- labels are compared as bytes: path k's eight are those of w, and zeros after them
 unfoldable pub isRow : List ℕ → List ℕ → ℕ → Bool
 isRow labels w k = not (found (λ j. not (eqb (labelByte labels k j) (at w j))) 8)
 
@@ -60,7 +61,8 @@ pathLine l = then (label l) (λ w l₁. then (lastField l₁) (λ v l₂. some (
 unfoldable pub guardLine : List ℕ → Parsed (List ℕ × (List ℕ × ℕ))
 guardLine l = then (label l) (λ a l₁. then (word space l₁) (λ _ l₂. then (pathLine l₂) (λ b l₃. some (a, b) l₃)))
 
--- What the lines mean: "in a line form first, then fields left to right". Path k's line: 11, 12 label twice, 3 width not 1 to 64
+-- What the lines mean (RULES 14): the form first, then the fields in turn. Path k's: 11, 12 label again, 3
+-- width
 unfoldable pub pathMeans : ℕ → List ℕ → List ℕ → Parsed (List ℕ × ℕ) → Line (List ℕ × List ℕ)
 pathMeans k labels widths none = wrong 11
 pathMeans k labels widths (some (w, v) l) =
@@ -69,7 +71,8 @@ pathMeans k labels widths (some (w, v) l) =
 unfoldable pub pathStep : ℕ → List ℕ × List ℕ → List ℕ → Line (List ℕ × List ℕ)
 pathStep k t l = pathMeans k (t .0) (t .1) (pathLine l)
 
--- A guard's line: 11, 13 label unknown or paired with itself, 14 pair given twice, 4 guard over 32; "14 precedes 4". Both cells are set
+-- A guard's line: 11, 13 no path's label or one label twice, 14 the pair again, 4 guard over 32. Both cells
+-- are set
 unfoldable pub guardCell : ℕ → ℕ → ℕ → ℕ → List ℕ → List ℕ → Line (List ℕ)
 guardCell n i j g guards l =
     cond (ltb i n && ltb j n && not (eqb i j))
@@ -85,7 +88,7 @@ guardMeans n labels guards (some t l) = guardCell n (find labels n (t .0)) (find
 unfoldable pub guardStep : ℕ → List ℕ → ℕ → List ℕ → List ℕ → Line (List ℕ)
 guardStep n labels k guards l = guardMeans n labels guards (guardLine l)
 
--- Path k's start: 11, 13 label not the path's, 7 start not 1 to 16,384
+-- Path k's start: 11, 13 not its label, 7 start outside 1 to 16,384
 unfoldable pub startMeans : List ℕ → ℕ → List ℕ → Parsed (List ℕ × ℕ) → Line (List ℕ)
 startMeans labels k starts none = wrong 11
 startMeans labels k starts (some t l) =
@@ -94,7 +97,7 @@ startMeans labels k starts (some t l) =
 unfoldable pub startStep : List ℕ → ℕ → List ℕ → List ℕ → Line (List ℕ)
 startStep labels k starts l = startMeans labels k starts (pathLine l)
 
--- The sections, "each after its count": a count of wrong form is 11 at its line, one that is not right is 1
+-- The sections, each headed by its count: one of wrong form is 11 at its line, one that is not right is 1
 unfoldable pub counted : {T : Type 0} → Parsed ℕ → (ℕ → Bool) → ℕ → (ℕ → List ℕ → Section T) → Section T
 counted none isRight line go = halt 11 line
 counted (some n l) isRight line go = cond (isRight n) (go n l) (halt 1 line)
@@ -103,19 +106,19 @@ unfoldable pub after : {T U : Type 0} → Section T → (T → List ℕ → Sect
 after (halt number line) go = halt number line
 after (done t l) go = go t l
 
--- "a line left over" is 11 at its number
+-- text that is left over is 11 at the line that it begins
 unfoldable pub ended : {T : Type 0} → ℕ → T → List ℕ → Section T
 ended line t [] = done t []
 ended line t (x ∷ l) = halt 11 line
 
--- "if there is a plan, `starts N` with N lines": the count, if there is one, stands in the line given
+-- the plan, where the text goes on: the count of the starts stands in the line given
 unfoldable pub startsPart : ℕ → ℕ → List ℕ → List ℕ → List ℕ → Section (List ℕ)
 startsPart n line labels starts [] = done starts []
 startsPart n line labels starts (x ∷ l) =
     counted (countLine startsWord (x ∷ l)) (λ m. eqb m n) line (λ m l₁.
     after (lines (startStep labels) (line + 1) n 0 starts l₁) (λ t l₂. ended (line + 1 + n) t l₂))
 
--- "G is 0 to 2,000"
+-- the guards, at most 2,000 lines, and what follows them
 unfoldable pub guardsPart : ℕ → List ℕ → List ℕ → List ℕ → List ℕ → Section (List ℕ × List ℕ)
 guardsPart n labels guards starts l =
     counted (countLine guardsWord l) (λ m. leb m 2000) (n + 2) (λ m l₁.

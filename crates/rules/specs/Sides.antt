@@ -1,5 +1,5 @@
--- Document 01, "Sides": "in each connected part the path of lowest number is on the low side and every conflict joins low to high."
--- Assumes nothing.
+-- RULES 7, the two sides: every conflict is between a low and a high path, and the first path of each
+-- connected part is low. Assumes nothing.
 use Prim.Native.Nat.{ℕ, zero, suc, _+_, _-_, _≤_, _<_, max}
 use mathlib.Core.Path.{_≡_}
 use mathlib.Core.Bool.{Bool, true, false, cond, not, _&&_}
@@ -16,7 +16,7 @@ pub data Walk (net : Net) (n i : ℕ) : ℕ → Bool → Type 0 where
   here : Walk net n i i false
   step : {j k : ℕ} {odd : Bool} → Walk net n i j odd → k < n → Conflict net j k → Walk net n i k (not odd)
 
--- "every conflict joins low to high": a side is false for low and true for high
+-- every conflict is across: a side is false for low and true for high
 abbrev pub Split : Net → ℕ → (ℕ → Bool) → Type 0
 Split net n high = (i j : ℕ) → i < n → j < n → Conflict net i j → high j ≡ not (high i)
 
@@ -50,14 +50,14 @@ sameMark net mark i j = ltb i j && (inConflict net i j && eqb (mark i) (mark j))
 unfoldable pub hasSides : Net → ℕ → Bool
 hasSides net n = not (foundPair (sameMark net (at (marks net n))) n)
 
--- "The two-sided order is the low side by number, then the high side by number"; "the size of the low side"
+-- the two-sided order, first the low paths and then the high ones, each by number; and how many are low
 unfoldable pub twoSided : ℕ → (ℕ → Bool) → List ℕ → List ℕ
 twoSided n high order = arranged (λ s i k. cond (high k) 1 0) n order n
 
 unfoldable pub lowSide : ℕ → (ℕ → Bool) → ℕ
 lowSide n high = sum (λ k. cond (high k) 0 1) n
 
--- "Packed, the order's highest slot is the larger of the widest path and the largest width + guard + width over conflicts"
+-- RULES 7: the highest slot that the two-sided order reaches when it is packed
 unfoldable pub acrossConflict : Net → ℕ → ℕ → ℕ
 acrossConflict net i j = cond (inConflict net i j) (net .width i + net .guard i j + net .width j) 0
 

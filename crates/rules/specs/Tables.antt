@@ -1,5 +1,5 @@
--- Document 01, "The tables and their sizes". A lent table is the list of its cells. Paths are numbered from 0; n is 1 to 128. Every table
--- has one fixed size, whatever n is: widths, starts and orders 128, guards 16,384, labels 1,024. Assumes nothing.
+-- RULES 3. A lent table is the list of its cells: widths, starts and orders 128, guards 16,384, labels 1,024,
+-- whatever n is. Paths are numbered from 0. Assumes nothing.
 use Prim.Native.Nat.{ℕ, _+_, _*_}
 use mathlib.Core.List.{List}
 use lib.ListN.{getD, replicate}
@@ -8,7 +8,7 @@ use lib.ListN.{getD, replicate}
 abbrev pub at : List ℕ → ℕ → ℕ
 at table k = getD table k 0
 
--- "the cell of i and j is 128i + j"
+-- where the guard of i and j stands
 abbrev pub cell : ℕ → ℕ → ℕ
 cell i j = 128 * i + j
 
@@ -24,10 +24,10 @@ pub record Lent : Type 0 where
 abbrev pub lend : List ℕ → List ℕ → Lent
 lend widths guards = record { widths = widths; guards = guards }
 
--- cleared: "widths and starts 0, guards 255"
+-- cleared: no widths, and no conflicts
 abbrev pub clearedNetwork : Lent
 clearedNetwork = lend (cleared 128 0) (cleared 16384 255)
 
--- "Labels: 1,024 bytes, eight a path": byte j of path k's label
+-- byte j of the eight that hold path k's label
 abbrev pub labelByte : List ℕ → ℕ → ℕ → ℕ
 labelByte labels k j = at labels (8 * k + j)

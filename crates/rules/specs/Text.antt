@@ -1,4 +1,5 @@
--- Document 01, "The sheet": its fields. A text is a list of bytes, and a field is taken off its front. Assumes nothing.
+-- RULES 13, the fields of a sheet. A text is a list of bytes, and a field is taken off its front. Assumes
+-- nothing.
 use Prim.Native.Nat.{ℕ, zero, suc, _+_, _-_, _*_, _/_, _%_}
 use Prim.Native.Char.{code}
 use Prim.Native.String.{String, [] as endOfString, _∷_ as _before_}
@@ -17,7 +18,7 @@ unfoldable pub then : {A B : Type 0} → Parsed A → (A → List ℕ → Parsed
 then none k = none
 then (some a l) k = k a l
 
--- fixed bytes: "compared byte by byte"
+-- fixed bytes, each compared
 unfoldable pub word : List ℕ → List ℕ → Parsed Unit
 word [] l = some tt l
 word (x ∷ w) [] = none
@@ -28,14 +29,14 @@ abbrev pub bytes : String → List ℕ
 bytes endOfString = []
 bytes (_before_ c s) = code c ∷ bytes s
 
--- "One space between fields, one line feed after each line, nothing else"
+-- what parts two fields, and what ends a line
 abbrev pub space : List ℕ
 space = bytes " "
 
 abbrev pub lineFeed : List ℕ
 lineFeed = bytes "\n"
 
--- "The section words are compared byte by byte, lower case"
+-- the section words
 abbrev pub pathsWord : List ℕ
 pathsWord = bytes "paths"
 
@@ -45,7 +46,7 @@ guardsWord = bytes "guards"
 abbrev pub startsWord : List ℕ
 startsWord = bytes "starts"
 
--- "digits, capitals and hyphen"
+-- the bytes of a number; and those of a label, with capitals and the hyphen
 unfoldable pub isDigit : ℕ → Bool
 isDigit x = leb 48 x && leb x 57
 
@@ -57,13 +58,13 @@ unfoldable pub run : (ℕ → Bool) → List ℕ → List ℕ
 run test [] = []
 run test (x ∷ l) = cond (test x) (x ∷ run test l) []
 
--- "A label is 1 to 8 of digits, capitals and hyphen"
+-- a label: all label bytes that stand in front, 1 to 8 of them
 unfoldable pub label : List ℕ → Parsed (List ℕ)
 label l =
     let w = run isLabelByte l in
     cond (ltb 0 (length w) && leb (length w) 8) (some w (drop (length w) l)) none
 
--- "A number has 1 to 5 digits and no leading zero, save 0 itself"
+-- the digits of a number: 1 to 5, and no zero in front of others
 unfoldable pub isPlain : List ℕ → Bool
 isPlain w = ltb 0 (length w) && leb (length w) 5 && (leb (length w) 1 || not (eqb (getD w 0 0) 48))
 

@@ -1,4 +1,4 @@
--- Document 01, "The sheet", as it is written. Assumes nothing.
+-- RULES 15, the sheet as it is written. Assumes nothing.
 use Prim.Native.Nat.{ℕ, zero, suc, _+_, _*_}
 use mathlib.Core.Bool.{Bool, cond, not, _&&_, _||_}
 use mathlib.Core.List.{List, [], _∷_, _++_}
@@ -13,7 +13,7 @@ use Rattle.rules.specs.Sheet.{isRow}
 unfoldable pub labelOf : List ℕ → ℕ → List ℕ
 labelOf labels k = run isLabelByte (take 8 (drop (8 * k) labels))
 
--- its row is no label of 1 to 8 such bytes filled at the end with zeros; it is the label of an earlier path
+-- 11: its row is not such a label with zeros after it. 12: its label is an earlier path's
 unfoldable pub badLabel : List ℕ → ℕ → Bool
 badLabel labels k = eqb (length (labelOf labels k)) 0 || not (isRow labels (labelOf labels k) k)
 
@@ -27,7 +27,7 @@ isPair guards i j = ltb i j && ltb (at guards (cell i j)) 255
 unfoldable pub pairs : ℕ → List ℕ → ℕ
 pairs n guards = sum (λ i. sum (λ j. cond (isPair guards i j) 1 0) n) n
 
--- "if any of the n starts is not zero"
+-- there is a plan where one of the n starts is not 0
 unfoldable pub hasPlan : ℕ → List ℕ → Bool
 hasPlan n starts = found (λ k. not (eqb (at starts k) 0)) n
 
@@ -43,7 +43,7 @@ countText w m = w ++ (space ++ (numeral m ++ lineFeed))
 unfoldable pub pathText : List ℕ → List ℕ → ℕ → List ℕ
 pathText labels table k = labelOf labels k ++ (space ++ (numeral (at table k) ++ lineFeed))
 
--- "the writer puts the earlier path first and sorts by first, then second path"
+-- a pair's line, the lower path first; the lines stand by first path, then by second
 unfoldable pub guardText : List ℕ → List ℕ → ℕ → ℕ → List ℕ
 guardText labels guards i j =
     cond (isPair guards i j) (labelOf labels i ++ (space ++ (labelOf labels j ++ (space ++ (numeral (at guards (cell i j)) ++ lineFeed))))) []
@@ -55,7 +55,7 @@ pathsText n labels widths = countText pathsWord n ++ joinFrom n 0 (pathText labe
 unfoldable pub guardsText : ℕ → List ℕ → List ℕ → List ℕ
 guardsText n labels guards = countText guardsWord (pairs n guards) ++ joinFrom n 0 (λ i. joinFrom n 0 (guardText labels guards i))
 
--- "The writer adds the starts section if any of the n starts is not zero"
+-- the starts, where there is a plan
 unfoldable pub startsText : ℕ → List ℕ → List ℕ → List ℕ
 startsText n labels starts = cond (hasPlan n starts) (countText startsWord n ++ joinFrom n 0 (pathText labels starts)) []
 

@@ -1,6 +1,6 @@
-// Document 01's limits, and what each public call answers. The rules themselves stand in specs/.
+// The limits (RULES 3), and what each public call answers (RULES 16). The rules themselves stand in specs/.
 
-// Tables and their sizes: every table has one fixed size, whatever n is.
+// The sizes of the tables, which do not depend on n.
 pub const PATHS: usize = 128;
 
 pub const CELLS: usize = 16384;
@@ -67,7 +67,7 @@ pub struct Fault {
     pub place: usize,
 }
 
-// Packing and pressing answer the starts, in their table, and the highest slot.
+// Packing and pressing: the starts stand in their table.
 #[repr(C)]
 pub struct Packed {
     pub number: usize,
@@ -75,7 +75,7 @@ pub struct Packed {
     pub highest: usize,
 }
 
-// The two-sided call answers the order, in its table, and the size of the low side.
+// The two sides: the order stands in its table, `low` is how many paths are low.
 #[repr(C)]
 pub struct Sided {
     pub number: usize,
@@ -83,7 +83,7 @@ pub struct Sided {
     pub low: usize,
 }
 
-// Planning and improving answer the order and its starts, in their tables, its highest slot and the number of swaps kept.
+// Planning and improving: order and starts stand in their tables, `kept` counts the swaps kept.
 #[repr(C)]
 pub struct Planned {
     pub number: usize,

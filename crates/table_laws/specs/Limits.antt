@@ -1,4 +1,5 @@
--- The tests and the limits: each chain of tests finds no fault exactly where document 01's limits hold. Assumes nothing.
+-- The tests and the limits: each chain of tests finds no fault exactly where the limits of RULES 3 hold.
+-- Assumes nothing.
 use Prim.Native.Nat.{ℕ, _≤_, _<_}
 use mathlib.Core.Path.{_≡_, refl, sym, ap, subst, _∙_}
 use mathlib.Core.Logic.{_≢_, _⊎_, inl, inr}

@@ -32,7 +32,7 @@ pub fn accepted() -> Fault
     }
 }
 
-// 1: n not 1 to 128.
+// 1: n outside 1 to 128.
 pub fn count_fault(n: usize) -> Fault
     ensures { λ r. ⌜ r ≡ countFault n ⌝ }
 {
@@ -45,7 +45,7 @@ pub fn count_fault(n: usize) -> Fault
     accepted()
 }
 
-// 2: a lent table of so many cells is not of its size.
+// 2: a table of so many cells has not its size.
 pub fn size_fault(cells: usize, size: usize) -> Fault
     ensures { λ r. ⌜ r ≡ refuseIf (not (eqb cells size)) 2 0 ⌝ }
 {
@@ -102,7 +102,7 @@ pub fn range_fault(n: usize, table: &[u16], most: u16, number: usize) -> Fault
     accepted()
 }
 
-// 7: start not 1 to 16,384.
+// 7: a start outside 1 to 16,384.
 pub fn start_fault(n: usize, starts: &[u16]) -> Fault
     requires { ⌜ (n ≤ 128) × (length (now starts) ≡ 128) ⌝ }
     ensures { λ r. ⌜ r ≡ startFault n (now (starts .entry)) ⌝ }
@@ -110,7 +110,7 @@ pub fn start_fault(n: usize, starts: &[u16]) -> Fault
     range_fault(n, starts, rules::START_MOST, rules::REFUSED_START)
 }
 
-// 4, of one cell: "guard cell not 0 to 32 or 255, diagonal not 255".
+// 4, of one cell: neither a guard of 0 to 32 nor 255, or on the diagonal another value than 255.
 fn bad_guard(i: usize, j: usize, g: u8) -> bool
     ensures { λ r. ⌜ r ≡ (not (eqb g 255) && (eqb i j || ltb 32 g)) ⌝ }
 {
@@ -271,7 +271,7 @@ fn square_fault(n: usize, guards: &[u8], mirror: bool, number: usize) -> Fault
     accepted()
 }
 
-// 6: order entry n or more, or seen earlier. seen[k] is 1 once path k has been met.
+// 6: an entry that is no path, or that comes a second time. seen[k] is 1 once path k has been met.
 pub fn order_fault(n: usize, order: &[u8]) -> Fault
     requires { ⌜ (n ≤ 128) × (length (now order) ≡ 128) ⌝ }
     ensures { λ r. ⌜ r ≡ orderFault n (now (order .entry)) ⌝ }
@@ -292,7 +292,7 @@ pub fn order_fault(n: usize, order: &[u8]) -> Fault
     accepted()
 }
 
-// 1, 3, 4, 5: a network, in this order; 4 over the whole square before 5.
+// 1, 3, 4, 5: a network, in this order; all of 4 before 5.
 pub fn network_fault(n: usize, widths: &[u16], guards: &[u8]) -> Fault
     requires { ⌜ (length (now widths) ≡ 128) × (length (now guards) ≡ 16384) ⌝ }
     ensures { λ r. ⌜ r ≡ networkFault n (lend (now (widths .entry)) (now (guards .entry))) ⌝ }
