@@ -14,8 +14,11 @@ pub extern "C" fn bench_pack_into(
     starts: &mut [u16],
 ) -> usize
     requires { ⌜ Packable n (lend (now widths) (now guards)) (now order) (now starts) ⌝ }
-    ensures { λ r. ⌜ r ≡ highest (netOf (lend (now (widths .entry)) (now (guards .entry)))) (at (now (starts .exit))) n ⌝ }
-    ensures { λ _. ⌜ now (starts .exit) ≡ packed (lowest (netOf (lend (now (widths .entry)) (now (guards .entry))))) (at (now (order .entry))) (now (starts .entry)) n ⌝ }
+    ensures { λ r. ⌜ r ≡ highest (netOf (lend (now (widths .entry)) (now (guards .entry))))
+        (at (now (starts .exit))) n ⌝ }
+    ensures { λ _. ⌜ now (starts .exit)
+        ≡ packed (lowest (netOf (lend (now (widths .entry)) (now (guards .entry)))))
+        (at (now (order .entry))) (now (starts .entry)) n ⌝ }
 {
     engine::pack_into(n, widths, guards, order, starts)
 }

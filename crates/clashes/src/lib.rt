@@ -30,7 +30,9 @@ fn pair_close(g: u8, s: u16, w: u16, t: u16, v: u16) -> bool
 // The first path past i that is too close to i, or n.
 fn close_search(n: usize, i: usize, widths: &[u16], guards: &[u8], starts: &[u16]) -> usize
     requires { ⌜ (i < n) × (Network n (lend (now widths) (now guards)) × Starts n (now starts)) ⌝ }
-    ensures { λ r. ⌜ r ≡ first (tooClose (netOf (lend (now (widths .entry)) (now (guards .entry)))) (at (now (starts .entry))) i) n ⌝ }
+    ensures { λ r. ⌜ r ≡ first
+        (tooClose (netOf (lend (now (widths .entry)) (now (guards .entry)))) (at (now (starts .entry))) i)
+        n ⌝ }
 {
     let mut j: usize = i + 1;
     while j < n {
@@ -46,7 +48,9 @@ fn close_search(n: usize, i: usize, widths: &[u16], guards: &[u8], starts: &[u16
 // Whether some path past i is too close to i; with no branch on a pair.
 fn row_close(n: usize, i: usize, widths: &[u16], guards: &[u8], starts: &[u16]) -> bool
     requires { ⌜ (i < n) × (Network n (lend (now widths) (now guards)) × Starts n (now starts)) ⌝ }
-    ensures { λ r. ⌜ r ≡ found (tooClose (netOf (lend (now (widths .entry)) (now (guards .entry)))) (at (now (starts .entry))) i) n ⌝ }
+    ensures { λ r. ⌜ r ≡ found
+        (tooClose (netOf (lend (now (widths .entry)) (now (guards .entry)))) (at (now (starts .entry))) i)
+        n ⌝ }
 {
     let s = starts[i];
     let w = widths[i];
@@ -64,7 +68,9 @@ fn row_close(n: usize, i: usize, widths: &[u16], guards: &[u8], starts: &[u16]) 
 // The first path past i that is too close to i, or n.
 fn close_row(n: usize, i: usize, widths: &[u16], guards: &[u8], starts: &[u16]) -> usize
     requires { ⌜ (i < n) × (Network n (lend (now widths) (now guards)) × Starts n (now starts)) ⌝ }
-    ensures { λ r. ⌜ r ≡ first (tooClose (netOf (lend (now (widths .entry)) (now (guards .entry)))) (at (now (starts .entry))) i) n ⌝ }
+    ensures { λ r. ⌜ r ≡ first
+        (tooClose (netOf (lend (now (widths .entry)) (now (guards .entry)))) (at (now (starts .entry))) i)
+        n ⌝ }
 {
     if row_close(n, i, widths, guards, starts) {
         return close_search(n, i, widths, guards, starts);
@@ -75,7 +81,8 @@ fn close_row(n: usize, i: usize, widths: &[u16], guards: &[u8], starts: &[u16]) 
 // 8: the first pair that is too close, row by row above the diagonal.
 pub fn clash_fault(n: usize, widths: &[u16], guards: &[u8], starts: &[u16]) -> Fault
     requires { ⌜ Network n (lend (now widths) (now guards)) × Starts n (now starts) ⌝ }
-    ensures { λ r. ⌜ r ≡ clashFault n (netOf (lend (now (widths .entry)) (now (guards .entry)))) (now (starts .entry)) ⌝ }
+    ensures { λ r. ⌜ r ≡ clashFault n (netOf (lend (now (widths .entry)) (now (guards .entry))))
+        (now (starts .entry)) ⌝ }
 {
     let mut i: usize = 0;
     while i < n {

@@ -22,7 +22,8 @@ fn path_at(list: &[u8], i: usize) -> usize
 // The guard of the paths at two positions.
 fn guard_of(guards: &[u8], list: &[u8], i: usize, j: usize) -> u8
     requires { ⌜ (i < j) × Listed (now guards) (now list) (j + 1) ⌝ }
-    ensures { λ r. ⌜ r ≡ at (now (guards .entry)) (cell (at (now (list .entry)) i) (at (now (list .entry)) j)) ⌝ }
+    ensures { λ r. ⌜ r ≡ at (now (guards .entry))
+        (cell (at (now (list .entry)) i) (at (now (list .entry)) j)) ⌝ }
 {
     let a = path_at(list, i);
     let b = path_at(list, j);
@@ -59,7 +60,8 @@ fn has_stranger(guards: &[u8], list: &[u8], j: usize) -> bool
 // 15, past the length: the first position whose entry is no path, or such a stranger to those before it.
 fn member_fault(n: usize, guards: &[u8], list: &[u8]) -> Fault
     requires { ⌜ (n ≤ 128) × (length (now guards) ≡ 16384) ⌝ }
-    ensures { λ r. ⌜ ((lent : Lent) → lent .guards ≡ now (guards .entry) → r ≡ scan 15 (badMember n (netOf lent) (now (list .entry))) (length (now (list .entry)))) ⌝ }
+    ensures { λ r. ⌜ ((lent : Lent) → lent .guards ≡ now (guards .entry) → r
+        ≡ scan 15 (badMember n (netOf lent) (now (list .entry))) (length (now (list .entry)))) ⌝ }
 {
     let mut k: usize = 0;
     while k < list.len() {
@@ -77,7 +79,8 @@ fn member_fault(n: usize, guards: &[u8], list: &[u8]) -> Fault
 // 15: the list is empty or over 8, place 0; or one of its entries is at fault.
 pub fn list_fault(n: usize, guards: &[u8], list: &[u8]) -> Fault
     requires { ⌜ (n ≤ 128) × (length (now guards) ≡ 16384) ⌝ }
-    ensures { λ r. ⌜ ((lent : Lent) → lent .guards ≡ now (guards .entry) → r ≡ listFault n (netOf lent) (now (list .entry))) ⌝ }
+    ensures { λ r. ⌜ ((lent : Lent) → lent .guards ≡ now (guards .entry) → r
+        ≡ listFault n (netOf lent) (now (list .entry))) ⌝ }
 {
     if list.len() < 1 {
         return tables::refused(rules::REFUSED_LIST, 0);
@@ -97,7 +100,8 @@ fn smaller(a: u8, b: u8) -> u8
 // The least guard between the path at position j and those before it.
 fn least_before(guards: &[u8], list: &[u8], j: usize) -> u8
     requires { ⌜ Listed (now guards) (now list) (j + 1) ⌝ }
-    ensures { λ r. ⌜ r ≡ least 255 (λ i. at (now (guards .entry)) (cell (at (now (list .entry)) i) (at (now (list .entry)) j))) j ⌝ }
+    ensures { λ r. ⌜ r ≡ least 255
+        (λ i. at (now (guards .entry)) (cell (at (now (list .entry)) i) (at (now (list .entry)) j))) j ⌝ }
 {
     let mut g: u8 = rules::NO_CONFLICT;
     let mut i: usize = 0;
@@ -112,7 +116,8 @@ fn least_before(guards: &[u8], list: &[u8], j: usize) -> u8
 // The least guard among the paths of the list; 255 where there are no two.
 fn least_guard(guards: &[u8], list: &[u8]) -> u8
     requires { ⌜ Listed (now guards) (now list) (length (now list)) ⌝ }
-    ensures { λ r. ⌜ ((lent : Lent) → lent .guards ≡ now (guards .entry) → r ≡ leastGuard (netOf lent) (at (now (list .entry))) (length (now (list .entry)))) ⌝ }
+    ensures { λ r. ⌜ ((lent : Lent) → lent .guards ≡ now (guards .entry) → r
+        ≡ leastGuard (netOf lent) (at (now (list .entry))) (length (now (list .entry)))) ⌝ }
 {
     let mut g: u8 = rules::NO_CONFLICT;
     let mut j: usize = 0;
@@ -126,8 +131,12 @@ fn least_guard(guards: &[u8], list: &[u8]) -> u8
 
 // The widths of the paths of the list, added.
 fn widths_added(widths: &[u16], list: &[u8]) -> usize
-    requires { ⌜ (length (now widths) ≡ 128) × ((length (now list) ≤ 8) × ((i : ℕ) → i < length (now list) → (at (now list) i < 128) × (at (now widths) (at (now list) i) ≤ 64))) ⌝ }
-    ensures { λ r. ⌜ (r ≡ sum (λ i. at (now (widths .entry)) (at (now (list .entry)) i)) (length (now (list .entry)))) × (r ≤ 512) ⌝ }
+    requires { ⌜ (length (now widths) ≡ 128)
+        × ((length (now list) ≤ 8)
+        × ((i : ℕ) → i < length (now list) → (at (now list) i < 128)
+        × (at (now widths) (at (now list) i) ≤ 64))) ⌝ }
+    ensures { λ r. ⌜ (r ≡ sum (λ i. at (now (widths .entry)) (at (now (list .entry)) i))
+        (length (now (list .entry)))) × (r ≤ 512) ⌝ }
 {
     let mut w: usize = 0;
     let mut i: usize = 0;
@@ -139,10 +148,12 @@ fn widths_added(widths: &[u16], list: &[u8]) -> usize
     w
 }
 
-// The floor of a list that the tests have accepted: its widths added, and for each path but one the least guard among them.
+// The floor of a list that the tests have accepted: its widths added, and for each path but one the least
+// guard among them.
 pub fn floor_of(widths: &[u16], guards: &[u8], list: &[u8]) -> usize
     requires { ⌜ ((n : ℕ) × Floorable n (lend (now widths) (now guards)) (now list)) ⌝ }
-    ensures { λ r. ⌜ r ≡ floorOf (netOf (lend (now (widths .entry)) (now (guards .entry)))) (at (now (list .entry))) (length (now (list .entry))) ⌝ }
+    ensures { λ r. ⌜ r ≡ floorOf (netOf (lend (now (widths .entry)) (now (guards .entry))))
+        (at (now (list .entry))) (length (now (list .entry))) ⌝ }
 {
     let w = widths_added(widths, list);
     let g = least_guard(guards, list);

@@ -1,4 +1,5 @@
--- Finding the two sides: the marks are the sides where every conflict joins two marks, and else there are no sides. Assumes nothing.
+-- Finding the two sides: the marks are the sides where every conflict joins two marks, and else there are
+-- no sides. Assumes nothing.
 use Prim.Native.Nat.{ℕ, zero, suc, _-_, _≤_, _<_}
 use mathlib.Core.Path.{_≡_, refl, sym, subst, subst₂, ap, _∙_}
 use mathlib.Core.Logic.{_≢_, _⊎_, inl, inr}

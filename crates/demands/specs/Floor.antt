@@ -32,7 +32,8 @@ abbrev pub walk : Net → (ℕ → ℕ) → ℕ → List ℕ → ℕ
 walk net c k o = sum (λ i. net .guard (c (at o i)) (c (at o (suc i)))) (k - 1)
 
 module _ (net : Net) (n : ℕ) (good : Good net n) (c : ℕ → ℕ) (k : ℕ) (q : Clique net n c k) where
-  -- two different paths of the list, whichever comes first, are in conflict and have no less than the least guard
+  -- two different paths of the list, whichever comes first, are in conflict and have no less than the least
+  -- guard
   pub both : (i j : ℕ) → i < k → j < k → i ≢ j → Conflict net (c i) (c j) × (leastGuard net c k ≤ net .guard (c i) (c j))
   both i j h l ne = go (decLt i j)
     where

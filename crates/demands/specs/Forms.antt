@@ -1,5 +1,5 @@
--- The forms of a sheet's lines, exactly: a field is found where its bytes stand, and nowhere else. A number stands in a text in one way
--- alone, that of the writer. Assumes nothing.
+-- The forms of a sheet's lines, exactly: a field is found where its bytes stand, and nowhere else. A number
+-- stands in a text in one way alone, that of the writer. Assumes nothing.
 use Prim.Native.Nat.{ℕ, zero, suc, _+_, _-_, _*_, _/_, _%_, _^_, _≤_, _<_}
 use mathlib.Core.Path.{_≡_, refl, sym, ap, subst, _∙_}
 use mathlib.Core.Logic.{_⊎_, inl, inr}
@@ -192,7 +192,8 @@ spelled-is (x ∷ w) a one few led = (omega (arith, below), spelled)
         sym (front-spelled x w a (alone led)) ∙ sym (spell-room (5 - suc (length w)) (length w) (valueFrom v w) small)
         ∙ ap (λ (k : ℕ). spell k (valueFrom v w)) five ∙ five-digits (valueFrom v w) ∙ ap numeral (sym first)
 
--- "A number has 1 to 5 digits and no leading zero, save 0 itself": the writer's spelling of a number up to 99,999
+-- "A number has 1 to 5 digits and no leading zero, save 0 itself": the writer's spelling of a number up to
+-- 99,999
 number-field : (l : List ℕ) (v : ℕ) (r : List ℕ) → number l ≡ some v r → (v ≤ 99999) × (l ≡ numeral v ++ r)
 unfolding number isPlain
 number-field l v r = go (ltb 0 (length W)) refl (leb (length W) 5) refl (leb (length W) 1) refl (eqb (at W 0) 48) refl

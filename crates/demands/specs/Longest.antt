@@ -120,7 +120,8 @@ module _ (n : ℕ) (labels : List ℕ) (lent : Lent) (starts : List ℕ) (ok : W
         starts-most,
       )
 
--- the two calls: no written sheet is longer, and a text of 45,489 bytes has room for every sheet that some text has room for
+-- the two calls: no written sheet is longer, and a text of 45,489 bytes has room for every sheet that some
+-- text has room for
 pub written-most : (n : ℕ) (labels : List ℕ) (lent : Lent) (starts text : List ℕ) → writing n labels lent starts text .answer .number ≡ 0 → writing n labels lent starts text .answer .length ≤ 45489
 unfolding writing unless
 written-most n labels lent starts text z =

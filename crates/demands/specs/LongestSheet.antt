@@ -1,4 +1,5 @@
--- "The longest sheet has 45,489 bytes": no text that is read is longer, and a sheet of that length is written and read. Assumes nothing.
+-- "The longest sheet has 45,489 bytes": no text that is read is longer, and a sheet of that length is
+-- written and read. Assumes nothing.
 use Prim.Native.Nat.{ℕ, zero, suc, _+_, _*_, _/_, _%_, _≤_, _<_}
 use mathlib.Core.Path.{_≡_, refl, sym, ap, _∙_}
 use mathlib.Core.Logic.{_≢_, _⊎_, inl, inr}
@@ -110,8 +111,8 @@ sheet-short l t (withPlan n labels widths m guards starts s) =
 pub read-most : (text labels : List ℕ) (lent : Lent) (starts : List ℕ) → reading text labels lent starts .answer .number ≡ 0 → length text ≤ 45489
 read-most text labels lent starts z = sheet-short text _ (reading-right text labels lent starts z .1)
 
--- The longest sheet: 128 paths of 64 slots with labels of eight bytes, each of the first 20 in conflict with each of the next 100, with a
--- guard of 32, and each at 16,384
+-- The longest sheet: 128 paths of 64 slots with labels of eight bytes, each of the first 20 in conflict
+-- with each of the next 100, with a guard of 32, and each at 16,384
 unfoldable pub longestLabel : ℕ → List ℕ
 longestLabel k = 65 ∷ 65 ∷ 65 ∷ 65 ∷ 65 ∷ 65 ∷ (65 + k / 16) ∷ (65 + k % 16) ∷ []
 

@@ -1,4 +1,5 @@
--- Demand 1: each call answers 0 exactly where what it is lent is within the limits. Judging is in OnJudging, by 001's rule. Assumes nothing.
+-- Demand 1: each call answers 0 exactly where what it is lent is within the limits. Judging is in
+-- OnJudging, by 001's rule. Assumes nothing.
 use Prim.Native.Nat.{ℕ, _≤_, _<_}
 use mathlib.Core.Path.{_≡_, refl, ap, _∙_}
 use mathlib.Core.Logic.{_⊎_, inl, inr, _↔_}

@@ -23,7 +23,8 @@ use Rattle.plan_laws.specs.Plans.{respects-lows, respects-keeps, respected, pac
 use Rattle.plan_laws.specs.Heights.{highest-same}
 use Rattle.plan_laws.specs.Answers.{unless-refused, Packable, pack-clear, packing-packable, packable-packing}
 
--- What packing answers, and the starts that it leaves, do not depend on what stands in the starts that it is lent
+-- What packing answers, and the starts that it leaves, do not depend on what stands in the starts that it
+-- is lent
 module _ (n : ℕ) (lent : Lent) (order starts others : List ℕ) (same : length starts ≡ length others) where
   fault-same : packFault n lent order starts ≡ packFault n lent order others
   unfolding packFault planSizes sizeFault
@@ -75,7 +76,8 @@ module _ (n : ℕ) (lent : Lent) (first second part : RefT (List ℕ)) (better :
   abbrev two : Packed
   two = packedAnswer n lent (now second)
 
-  -- where both can be packed: the first n entries of the order of the lower highest slot, and on equality of the first
+  -- where both can be packed: the first n entries of the order of the lower highest slot, and on equality
+  -- of the first
   pub better-first : one .number ≡ 0 → two .number ≡ 0 → one .highest ≤ two .highest → Part first n part
   unfolding Bettered comparing
   better-first y z l = rw (eq-eqb (one .number) 0 y, eq-eqb (two .number) 0 z, le-ltb (two .highest) (one .highest) l) at better

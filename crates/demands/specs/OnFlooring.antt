@@ -1,4 +1,5 @@
--- The floor, as the call answers: what it is, and that no valid plan's highest slot is below it. Assumes nothing.
+-- The floor, as the call answers: what it is, and that no valid plan's highest slot is below it. Assumes
+-- nothing.
 use Prim.Native.Nat.{ℕ, zero, suc, _+_, _-_, _*_, _≤_, _<_, min}
 use mathlib.Core.Path.{_≡_, refl, _∙_}
 use mathlib.Core.Logic.{_⊎_, inl, inr}
@@ -23,7 +24,8 @@ flooring-holds n lent list z plan v =
     rw (flooring-floor n lent list z)
     (floor-holds (netOf lent) n (network-good n lent (f .network)) (at list) (length list) (f .clique) plan v (f .some))
 
--- the least guard of a list: no guard of two of its paths is below it; and where there are two, it is such a guard
+-- the least guard of a list: no guard of two of its paths is below it; and where there are two, it is such
+-- a guard
 least-reached : (d : ℕ) (f : ℕ → ℕ) (n : ℕ) → (least d f n ≡ d) ⊎ ((i : ℕ) × (i < n) × (least d f n ≡ f i))
 unfolding least
 least-reached d f zero = inl refl

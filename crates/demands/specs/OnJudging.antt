@@ -14,7 +14,8 @@ use Rattle.plan_laws.specs.Fits.{network-good}
 use Rattle.table_laws.specs.Limits.{order-whole, whole-order, order-once, once-order}
 use Rattle.plan_laws.specs.Answers.{judging-judgeable, judgeable-judging}
 
--- Judging answers 0 exactly when the tables are within the limits and the published rule holds: 001's equations (2) and (3)
+-- Judging answers 0 exactly when the tables are within the limits and the published rule holds: 001's
+-- equations (2) and (3)
 pub judging-exact : (n : ℕ) (lent : Lent) (starts : List ℕ)
     → (judging n lent starts .number ≡ 0) ↔ (Network n lent × Starts n starts × Published (netOf lent) n (at starts))
 judging-exact n lent starts = (

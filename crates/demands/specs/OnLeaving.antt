@@ -1,5 +1,6 @@
--- Demand 1: what a call leaves. A refused answer has its other numbers 0 and leaves every lent table as it was; an answer of 0 leaves the cells of
--- index n or more as they were, and the text past the written length. Assumes nothing.
+-- Demand 1: what a call leaves. A refused answer has its other numbers 0 and leaves every lent table as it
+-- was; an answer of 0 leaves the cells of index n or more as they were, and the text past the written
+-- length. Assumes nothing.
 use Prim.Native.Nat.{ℕ, zero, suc, _+_, _-_, _≤_, _<_}
 use mathlib.Core.Path.{_≡_, refl, sym, ap, _∙_}
 use mathlib.Core.Logic.{_≢_}
@@ -174,7 +175,8 @@ siding-past n lent order z =
     let s = siding-done n lent order z in
     rw (sidable-siding n lent order (s .0) (s .1)) (sided-kept (isHigh (netOf lent) n) n order)
 
--- the order that was lent and the starts that were lent, after an order that keeps the first has been packed into the second
+-- the order that was lent and the starts that were lent, after an order that keeps the first has been
+-- packed into the second
 module _ (n : ℕ) (lent : Lent) (order starts : List ℕ) where
   planned-kept : (o : List ℕ) (kept : ℕ) → KeptFrom n order o → ((i : ℕ) → i < n → at o i < n)
       → KeptFrom n order (donePlanned (netOf lent) n o starts kept .tables .0) × KeptFrom n starts (donePlanned (netOf lent) n o starts kept .tables .1)

@@ -1,5 +1,6 @@
--- Demand 1, the lines of a sheet: the number that each kind of line is refused with, exactly: "in a line form first, then fields left to
--- right; 14 precedes 4"; and a section halts at its first line that is not right. Assumes nothing.
+-- Demand 1, the lines of a sheet: the number that each kind of line is refused with, exactly: "in a line
+-- form first, then fields left to right; 14 precedes 4"; and a section halts at its first line that is not
+-- right. Assumes nothing.
 use Prim.Native.Nat.{ℕ, zero, suc, _+_, _≤_, _<_}
 use mathlib.Core.Path.{_≡_, refl, sym, ap, subst, _∙_}
 use mathlib.Core.Logic.{_≢_, _⊎_, inl, inr}
@@ -201,7 +202,8 @@ module _ (labels : List ℕ) (k : ℕ) (starts l : List ℕ) where
   start-only x (start w v r f h (inr a)) = start-high labels k starts l w v r (form-path l w v r f) (row-same labels w k h) a
   start-only x (fine w v r f h a b) = start-fine labels k starts l w v r (form-path l w v r f) (row-same labels w k h) a b
 
--- A section of lines. The first k lines are right: they lead from the tables t and the text l to the tables and the text after them
+-- A section of lines. The first k lines are right: they lead from the tables t and the text l to the tables
+-- and the text after them
 pub data FirstRight {T : Type 0} (step : ℕ → T → List ℕ → Line T) (t : T) (l : List ℕ) : ℕ → T → List ℕ → Type 0 where
   start : FirstRight step t l 0 t l
   more : (k : ℕ) (t′ : T) (l′ : List ℕ) (t″ : T) (l″ : List ℕ) → FirstRight step t l k t′ l′ → step k t′ l′ ≡ right t″ l″ → FirstRight step t l (suc k) t″ l″

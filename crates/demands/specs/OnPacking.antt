@@ -92,7 +92,8 @@ module _ (n : ℕ) (lent : Lent) (order starts : List ℕ) (zero-answer : packin
   unfolding donePacked
   packing-highest = rw packing-is
 
-  -- the rule itself: each start is 1, or the first slot past a conflicting path earlier in the order and its guard, and it is below none of these
+  -- the rule itself: each start is 1, or the first slot past a conflicting path earlier in the order and
+  -- its guard, and it is below none of these
   pub packing-clear : (i j : ℕ) → i < j → j < n → Conflict (netOf lent) (at order i) (at order j)
       → Clear (netOf lent) (at (packing n lent order starts .tables)) (at order i) (at order j)
   unfolding donePacked

@@ -1,5 +1,5 @@
--- The plan program: for every sheet that is read it prints that sheet with a valid plan, which is itself read back; for every other input it
--- prints the refusal of the first line at fault. Assumes nothing.
+-- The plan program: for every sheet that is read it prints that sheet with a valid plan, which is itself
+-- read back; for every other input it prints the refusal of the first line at fault. Assumes nothing.
 use Prim.Native.Nat.{ℕ, zero, suc, _+_, _≤_, _<_}
 use mathlib.Core.Path.{_≡_, refl, sym, ap, _∙_}
 use mathlib.Core.Logic.{_≢_}

@@ -1,5 +1,6 @@
--- Demand 1, the reader: the answer's number and place are those of the first line at fault; 0 exactly where every line is right; and what
--- the tables then hold. "The reader: 2 first, then the first line at fault." Assumes nothing.
+-- Demand 1, the reader: the answer's number and place are those of the first line at fault; 0 exactly where
+-- every line is right; and what the tables then hold. "The reader: 2 first, then the first line at fault."
+-- Assumes nothing.
 use Prim.Native.Nat.{ℕ, _+_, _≤_, _<_}
 use mathlib.Core.Path.{_≡_, refl, sym, ap, subst, _∙_}
 use mathlib.Core.Logic.{_≢_, _⊎_, inl, inr}
@@ -31,7 +32,8 @@ use Rattle.demands.specs.OnLines.{PathSays, form, labelTwice, width, fin
 abbrev pub NoCount : List ℕ → List ℕ → Type 0
 NoCount word l = (m : ℕ) (r : List ℕ) → CountForm word l m r → ⊥
 
--- the count and the lines of the paths are right: they are n, leave labels and widths, and the text l₂ comes after them
+-- the count and the lines of the paths are right: they are n, leave labels and widths, and the text l₂
+-- comes after them
 pub record PathsRight (l : List ℕ) (n : ℕ) (labels widths l₂ : List ℕ) : Type 0 where
   pub l₁ : List ℕ
   pub count : CountForm pathsWord l n l₁
@@ -56,8 +58,8 @@ pub record StartsRight (l : List ℕ) (n : ℕ) (labels widths : List ℕ) (m : 
   pub count : CountForm startsWord l₄ n l₅
   pub each : FirstRight (startStep labels) (cleared 128 0) l₅ k starts l₆
 
--- What a whole sheet comes to. Its first line at fault, as the number and the line: line 1 is the paths' count, n + 2 the guards', n + m + 3 the
--- starts'
+-- What a whole sheet comes to. Its first line at fault, as the number and the line: line 1 is the paths'
+-- count, n + 2 the guards', n + m + 3 the starts'
 pub data SheetWrong (l : List ℕ) : ℕ → ℕ → Type 0 where
   pathsForm : NoCount pathsWord l → SheetWrong l 11 1
   pathsCount : (n : ℕ) (r : List ℕ) → CountForm pathsWord l n r → (n < 1) ⊎ (128 < n) → SheetWrong l 1 1

@@ -1,5 +1,6 @@
--- Demand 1: which number and which place each call answers. What its tests give in their order, in document 01's words, is its number and place;
--- and tests give one answer alone (`gives-one`). Assumes nothing.
+-- Demand 1: which number and which place each call answers. What its tests give in their order, in the
+-- words of rules/specs/Refusing, is its number and place; and tests give one answer alone (`gives-one`).
+-- Assumes nothing.
 use Prim.Native.Nat.{ℕ, _≤_, _<_}
 use mathlib.Core.Path.{_≡_, refl, sym, _∙_}
 use mathlib.Core.Bool.{Bool, true, false, cond, not, _&&_, true≢false}
@@ -136,7 +137,8 @@ module _ (n : ℕ) (lent : Lent) (order starts : List ℕ) where
         done : (donePlan (netOf lent) n order starts seed rounds .answer .number ≡ 0) × (donePlan (netOf lent) n order starts seed rounds .answer .place ≡ 0)
         done = unfold donePlan donePlanned doneImproved in (either (hasSides (netOf lent) n) _ _ (refl, refl) (refl, refl))
 
--- the two-sided call: where the network is within the limits the marks find two sides exactly where there are some
+-- the two-sided call: where the network is within the limits the marks find two sides exactly where there
+-- are some
 module _ (n : ℕ) (lent : Lent) (order : List ℕ) where
   sides-give : Network n lent → Gives (sidesTest n (netOf lent) ∷ []) (sidesFault n (netOf lent))
   unfolding sidesFault

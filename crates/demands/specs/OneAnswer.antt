@@ -1,6 +1,7 @@
--- No second answer: each public call's contract is met by at most one answer with at most one content of each table that it may write. One
--- law, cited once a call. The one exemption is the ghost name of the reference that `better` hands back: its place and its cells are
--- determined (docs/PROMISES.md). Assumes nothing.
+-- No second answer: each public call's contract is met by at most one answer with at most one content of
+-- each table that it may write. One law, cited once a call. The one exemption is the ghost name of the
+-- reference that `better` hands back: its place and its cells are determined (docs/PROMISES.md). Assumes
+-- nothing.
 use Prim.Native.Nat.{ℕ}
 use mathlib.Core.Path.{_≡_, sym, ap, _∙_}
 use mathlib.Core.List.{List}

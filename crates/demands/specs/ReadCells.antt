@@ -1,4 +1,5 @@
--- Demand 1, the reader: the tables of a sheet that is read are within the limits, and what lies past n is cleared. Assumes nothing.
+-- Demand 1, the reader: the tables of a sheet that is read are within the limits, and what lies past n is
+-- cleared. Assumes nothing.
 use Prim.Native.Nat.{ℕ, suc, _*_, _/_, _%_, _≤_, _<_}
 use mathlib.Core.Path.{_≡_, sym, ap, subst, _∙_}
 use mathlib.Core.Logic.{_≢_, _⊎_, inl, inr}

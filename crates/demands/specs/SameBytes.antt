@@ -1,4 +1,5 @@
--- A sheet that was read back is written again to the same bytes: the writer looks at the cells of n paths alone. Assumes nothing.
+-- A sheet that was read back is written again to the same bytes: the writer looks at the cells of n paths
+-- alone. Assumes nothing.
 use Prim.Native.Nat.{ℕ, zero, suc, _+_, _*_, _≤_, _<_}
 use mathlib.Core.Path.{_≡_, refl, sym, ap, _∙_}
 use mathlib.Core.Bool.{Bool, cond, not, _&&_}

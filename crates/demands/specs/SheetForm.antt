@@ -1,5 +1,6 @@
--- Demand 1, the reader: a text is read exactly when it is the sheet of the tables that are then left, as the writer puts it down, save that the
--- guard lines may come in any order and either way round. Assumes nothing.
+-- Demand 1, the reader: a text is read exactly when it is the sheet of the tables that are then left, as
+-- the writer puts it down, save that the guard lines may come in any order and either way round. Assumes
+-- nothing.
 use Prim.Native.Nat.{ℕ, zero, suc, _+_, _/_, _%_, _≤_, _<_}
 use mathlib.Core.Path.{_≡_, refl, sym, ap, subst, _∙_}
 use mathlib.Core.Logic.{_≢_, _⊎_, inl, inr}

@@ -1,5 +1,5 @@
--- A whole sheet: what the writer writes, the reader reads back to the same n, labels, widths, guards and starts, cells past n cleared.
--- Assumes nothing.
+-- A whole sheet: what the writer writes, the reader reads back to the same n, labels, widths, guards and
+-- starts, cells past n cleared. Assumes nothing.
 use Prim.Native.Nat.{ℕ, _+_, _<_}
 use mathlib.Core.Path.{_≡_, refl, sym, ap, _∙_}
 use mathlib.Core.Bool.{Bool, true, false, cond, not, true≢false}

@@ -1,4 +1,5 @@
--- Tests in their order: the one law by which a chain of tests gives what document 01's words give. Assumes nothing.
+-- Tests in their order: the one law by which a chain of tests gives what the words of RULES 17 and 18 give.
+-- Assumes nothing.
 use Prim.Native.Nat.{ℕ, _≤_, _<_}
 use mathlib.Core.Path.{_≡_, refl, sym, ap, subst, _∙_}
 use mathlib.Core.Logic.{_⊎_, inl, inr, _↔_}

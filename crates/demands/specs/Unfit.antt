@@ -108,7 +108,8 @@ read-refusing program = refusing-unfit (λ r. r .answer .number) readingOf progr
 pub write-refusing : (program : ℕ × Table × Lent × Table × Table → Left SheetWritten Table) → Meets program writingOf → Refuses (λ r. r .answer .number) program → ⊥
 write-refusing program = refusing-unfit (λ r. r .answer .number) writingOf program (1, labelA, netOne, three 0 0 0, cleared 100 0) (entry 8 answers)
 
--- the better of two refuses everything by handing back nothing: a program that meets it hands back three entries for these two orders of T
+-- the better of two refuses everything by handing back nothing: a program that meets it hands back three
+-- entries for these two orders of T
 abbrev Reference : Type 0
 Reference = RefT Table
 
@@ -125,7 +126,8 @@ better-refusing program meets nothing =
     let part = rw betterT at (meets 3 netT one two) in
     omega (arith, ap length (sym (nothing 3 netT one two) ∙ part .cells))
 
--- (2) A packing with one constant answer wherever it answers: one highest slot for all, or one table of starts for all
+-- (2) A packing with one constant answer wherever it answers: one highest slot for all, or one table of
+-- starts for all
 module _ (program : ℕ × Lent × Table × Table → Left Packed Table) (meets : Meets program packingOf) where
   abbrev givenOrder : Table → ℕ × Lent × Table × Table
   givenOrder order = (3, netT, order, three 0 0 0)
@@ -164,8 +166,8 @@ untouched-unfit program meets untouched =
     first-start : at (three 20 10 30) 0 ≡ 20
     first-start = unfold three in refl
 
--- (4) An improver that works in round one and idles after, and refuses 10,001 rounds rightly: wherever it answers, more rounds leave what one
--- round left
+-- (4) An improver that works in round one and idles after, and refuses 10,001 rounds rightly: wherever it
+-- answers, more rounds leave what one round left
 pub idle-unfit : (program : ℕ × Lent × Table × Table × ℕ × ℕ → Left Planned (Table × Table)) → Meets program improvingOf
     → ((n : ℕ) (lent : Lent) (order starts : Table) (seed more : ℕ) → program (n, lent, order, starts, seed, suc more) .answer .number ≡ 0
     → program (n, lent, order, starts, seed, suc more) ≡ program (n, lent, order, starts, seed, 1))
@@ -184,7 +186,8 @@ idle-unfit program meets idles =
     done : program (given 2) .answer .number ≡ 0
     done = ap (λ (r : Left Planned (Table × Table)). r .answer .number) (meets (given 2)) ∙ entry 12 answers
 
--- (5) An invented number of kept swaps: it has to be the number of those rounds after which the program's own highest slot is lower than before
+-- (5) An invented number of kept swaps: it has to be the number of those rounds after which the program's
+-- own highest slot is lower than before
 pub invented-unfit : (program : ℕ × Lent × Table × Table × ℕ × ℕ → Left Planned (Table × Table)) → Meets program improvingOf
     → (n : ℕ) (lent : Lent) (order starts : Table) (seed rounds : ℕ) → program (n, lent, order, starts, seed, rounds) .answer .number ≡ 0
     → program (n, lent, order, starts, seed, rounds) .answer .kept

@@ -57,8 +57,8 @@ pub betterT : comparing 3 netT (three 0 1 2) (three 1 0 2) ≡ 2
 unfolding withGuard widthsT guardsT netT three cleared first found firstRow foundPair largest least sum highest tooClose placed reach lowest packed height picked choose arranged pressed touches opposite marks isHigh sameMark hasSides twoSided lowSide draw drawnPlace swapped stateAfter tried round rounds improved leastGuard floor refuseIf _orElse_ scan square countFault sizeFault orderFault startFault clashFault sidesFault roundsFault listFault networkFault networkSizes lentFault planSizes judgeFault packFault twoSidesFault planFault improveFault floorFault unless judging refusedPacked donePacked packing pressing siding refusedPlanned donePlanned doneImproved improving flooring then word isDigit isLabelByte run label isPlain valueFrom number spell numeral isRow find bytesFrom putRow follow lines lastField countLine pathLine guardLine pathMeans pathStep guardCell guardMeans guardStep startMeans startStep counted after ended startsPart guardsPart sheetFrom labelOf badLabel labelTwice isPair pairs hasPlan joinFrom countText pathText guardText pathsText guardsText startsText sheetText labelSizes sheetSizes writeFault donePlan planning readOutcome reading writing refusalText plannedText printed comparing packedAnswer
 betterT = refl
 
--- two orders of T pack to different highest slots and different starts, a plan of T is pressed to another, and the second round improves what the first
--- has improved
+-- two orders of T pack to different highest slots and different starts, a plan of T is pressed to another,
+-- and the second round improves what the first has improved
 pub differs :
     (packing 3 netT (three 0 1 2) (three 0 0 0) .answer .highest
     ∷ packing 3 netT (three 1 0 2) (three 0 0 0) .answer .highest

@@ -1,4 +1,5 @@
--- What the writer accepts: its tests find no fault exactly where these hold and the lent text has room. Assumes nothing.
+-- What the writer accepts: its tests find no fault exactly where these hold and the lent text has room.
+-- Assumes nothing.
 use Prim.Native.Nat.{ℕ, _≤_, _<_}
 use mathlib.Core.Path.{_≡_, refl, sym, ap, _∙_}
 use mathlib.Core.Bool.{Bool, true, false, _&&_}

@@ -1,5 +1,5 @@
-// An inner crate, for the readers and writers of sheets: the table of labels, eight bytes a path, and the keys that
-// labels are compared by.
+// An inner crate, for the readers and writers of sheets: the table of labels, eight bytes a path, and the
+// keys that labels are compared by.
 ghost use mathlib.Core.Path.{_≡_};
 ghost use Prim.Native.Nat.{_+_, _*_, _≤_};
 ghost use lib.ListN.{length};
@@ -61,7 +61,8 @@ pub fn find(keys: &[usize], n: usize, key: usize) -> usize
 // Puts the label between two places down as path k's.
 pub fn put_row(labels: &mut [u8], k: usize, text: &[u8], place: usize, end: usize)
     requires { ⌜ (place ≤ end) × (end ≤ length (now text)) × (8 * k + 8 ≤ length (now labels)) ⌝ }
-    ensures { λ _. ⌜ now (labels .exit) ≡ putRow (now (labels .entry)) k (part (now (text .entry)) place end) ⌝ }
+    ensures { λ _. ⌜ now (labels .exit)
+        ≡ putRow (now (labels .entry)) k (part (now (text .entry)) place end) ⌝ }
 {
     let mut j = 0;
     while j < rules::LABEL {

@@ -1,4 +1,5 @@
-// An inner crate, for the readers of sheets: what each line of a sheet means, over the tables that it is read into.
+// An inner crate, for the readers of sheets: what each line of a sheet means, over the tables that it is
+// read into.
 ghost use mathlib.Core.Path.{_≡_};
 ghost use mathlib.Core.List.{List};
 ghost use Prim.Native.Nat.{ℕ, _+_, _*_, _≤_, _<_};
@@ -10,7 +11,8 @@ ghost use Rattle.lines.specs.Says.{GuardLineIs, StepIs, StepWithin, Path
 use text::Next;
 use text::PathLine;
 
-// A guard's line: the places after its first label and at and after its second, its guard, and the place after the line.
+// A guard's line: the places after its first label and at and after its second, its guard, and the place
+// after the line.
 pub enum GuardLine {
     Pair(usize, usize, usize, usize, usize),
     Unpaired,
@@ -48,8 +50,11 @@ pub fn path_step(
     widths: &mut [u16],
     keys: &mut [usize],
 ) -> Step
-    requires { ⌜ (place ≤ length (now text)) × (8 * k + 8 ≤ length (now labels)) × (k < length (now widths)) × (k < length (now keys)) × Keyed (now labels) (now keys) k ⌝ }
-    ensures { λ r. ⌜ PathStepIs (now (text .entry)) (now (labels .exit)) (now (widths .exit)) (now (keys .exit)) k (pathStep k (now (labels .entry), now (widths .entry)) (drop place (now (text .entry)))) r ⌝ }
+    requires { ⌜ (place ≤ length (now text)) × (8 * k + 8 ≤ length (now labels))
+        × (k < length (now widths)) × (k < length (now keys)) × Keyed (now labels) (now keys) k ⌝ }
+    ensures { λ r. ⌜ PathStepIs (now (text .entry)) (now (labels .exit)) (now (widths .exit))
+        (now (keys .exit)) k
+        (pathStep k (now (labels .entry), now (widths .entry)) (drop place (now (text .entry)))) r ⌝ }
 {
     let PathLine::Fields(e, width, next) = text::path_line(text, place) else {
         return Step::Refused(rules::REFUSED_FORM);
@@ -89,9 +94,12 @@ pub fn guard_line(text: &[u8], place: usize) -> GuardLine
 // A guard's line, over the keys of n labels: 11, 13 no path's label or one label twice, 14 the pair again, 4
 // guard over 32.
 pub fn guard_step(text: &[u8], place: usize, n: usize, keys: &[usize], guards: &mut [u8]) -> Step
-    requires { ⌜ (place ≤ length (now text)) × (n ≤ 128) × (n ≤ length (now keys)) × (length (now guards) ≡ 16384) ⌝ }
-    ensures { λ r. ⌜ StepWithin (now (text .entry)) r × ((labels : List ℕ) → Keyed labels (now (keys .entry)) n
-        → StepIs (now (text .entry)) (now (guards .exit)) (guardStep n labels 0 (now (guards .entry)) (drop place (now (text .entry)))) r) ⌝ }
+    requires { ⌜ (place ≤ length (now text)) × (n ≤ 128) × (n ≤ length (now keys))
+        × (length (now guards) ≡ 16384) ⌝ }
+    ensures { λ r. ⌜ StepWithin (now (text .entry)) r
+        × ((labels : List ℕ) → Keyed labels (now (keys .entry)) n
+        → StepIs (now (text .entry)) (now (guards .exit))
+        (guardStep n labels 0 (now (guards .entry)) (drop place (now (text .entry)))) r) ⌝ }
 {
     let GuardLine::Pair(e, f, e2, guard, next) = guard_line(text, place) else {
         return Step::Refused(rules::REFUSED_FORM);
@@ -130,9 +138,12 @@ pub fn start_step(
     keys: &[usize],
     starts: &mut [u16],
 ) -> Step
-    requires { ⌜ (place ≤ length (now text)) × (k < n) × (n ≤ length (now keys)) × (n ≤ length (now starts)) ⌝ }
-    ensures { λ r. ⌜ StepWithin (now (text .entry)) r × ((labels : List ℕ) → Keyed labels (now (keys .entry)) n
-        → StepIs (now (text .entry)) (now (starts .exit)) (startStep labels k (now (starts .entry)) (drop place (now (text .entry)))) r) ⌝ }
+    requires { ⌜ (place ≤ length (now text)) × (k < n) × (n ≤ length (now keys))
+        × (n ≤ length (now starts)) ⌝ }
+    ensures { λ r. ⌜ StepWithin (now (text .entry)) r
+        × ((labels : List ℕ) → Keyed labels (now (keys .entry)) n
+        → StepIs (now (text .entry)) (now (starts .exit))
+        (startStep labels k (now (starts .entry)) (drop place (now (text .entry)))) r) ⌝ }
 {
     let PathLine::Fields(e, start, next) = text::path_line(text, place) else {
         return Step::Refused(rules::REFUSED_FORM);

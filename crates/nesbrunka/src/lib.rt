@@ -1,4 +1,5 @@
-// The library's C face: each call under its exported name, with the promise of the call itself. In C a slice is a pointer and then a length.
+// The library's C face: each call under its exported name, with the promise of the call itself. In C a
+// slice is a pointer and then a length.
 use rules::Fault;
 use rules::Floored;
 use rules::Packed;
@@ -13,7 +14,8 @@ ghost use Rattle.rules.specs.Better.{comparing};
 
 #[no_mangle]
 pub extern "C" fn nesbrunka_judge(n: usize, widths: &[u16], guards: &[u8], starts: &[u16]) -> Fault
-    ensures { λ r. ⌜ r ≡ judging n (lend (now (widths .entry)) (now (guards .entry))) (now (starts .entry)) ⌝ }
+    ensures { λ r. ⌜ r ≡ judging n (lend (now (widths .entry)) (now (guards .entry)))
+        (now (starts .entry)) ⌝ }
 {
     packing::judge(n, widths, guards, starts)
 }
@@ -26,7 +28,9 @@ pub extern "C" fn nesbrunka_pack(
     order: &[u8],
     starts: &mut [u16],
 ) -> Packed
-    ensures { λ r. ⌜ left r (now (starts .exit)) ≡ packing n (lend (now (widths .entry)) (now (guards .entry))) (now (order .entry)) (now (starts .entry)) ⌝ }
+    ensures { λ r. ⌜ left r (now (starts .exit))
+        ≡ packing n (lend (now (widths .entry)) (now (guards .entry))) (now (order .entry))
+        (now (starts .entry)) ⌝ }
 {
     packing::pack(n, widths, guards, order, starts)
 }
@@ -38,7 +42,8 @@ pub extern "C" fn nesbrunka_press(
     guards: &[u8],
     starts: &mut [u16],
 ) -> Packed
-    ensures { λ r. ⌜ left r (now (starts .exit)) ≡ pressing n (lend (now (widths .entry)) (now (guards .entry))) (now (starts .entry)) ⌝ }
+    ensures { λ r. ⌜ left r (now (starts .exit))
+        ≡ pressing n (lend (now (widths .entry)) (now (guards .entry))) (now (starts .entry)) ⌝ }
 {
     packing::press(n, widths, guards, starts)
 }
@@ -52,7 +57,8 @@ pub extern "C" fn nesbrunka_better(
     first: &[u8],
     second: &[u8],
 ) -> usize
-    ensures { λ r. ⌜ r ≡ comparing n (lend (now (widths .entry)) (now (guards .entry))) (now (first .entry)) (now (second .entry)) ⌝ }
+    ensures { λ r. ⌜ r ≡ comparing n (lend (now (widths .entry)) (now (guards .entry)))
+        (now (first .entry)) (now (second .entry)) ⌝ }
 {
     packing::compare(n, widths, guards, first, second)
 }
@@ -64,7 +70,8 @@ pub extern "C" fn nesbrunka_two_sides(
     guards: &[u8],
     order: &mut [u8],
 ) -> Sided
-    ensures { λ r. ⌜ left r (now (order .exit)) ≡ siding n (lend (now (widths .entry)) (now (guards .entry))) (now (order .entry)) ⌝ }
+    ensures { λ r. ⌜ left r (now (order .exit))
+        ≡ siding n (lend (now (widths .entry)) (now (guards .entry))) (now (order .entry)) ⌝ }
 {
     planning::two_sides(n, widths, guards, order)
 }
@@ -79,7 +86,9 @@ pub extern "C" fn nesbrunka_plan(
     seed: u32,
     rounds: usize,
 ) -> Planned
-    ensures { λ r. ⌜ left r (now (order .exit), now (starts .exit)) ≡ planning n (lend (now (widths .entry)) (now (guards .entry))) (now (order .entry)) (now (starts .entry)) seed rounds ⌝ }
+    ensures { λ r. ⌜ left r (now (order .exit), now (starts .exit))
+        ≡ planning n (lend (now (widths .entry)) (now (guards .entry))) (now (order .entry))
+        (now (starts .entry)) seed rounds ⌝ }
 {
     planning::plan(n, widths, guards, order, starts, seed, rounds)
 }
@@ -94,7 +103,9 @@ pub extern "C" fn nesbrunka_improve(
     seed: u32,
     rounds: usize,
 ) -> Planned
-    ensures { λ r. ⌜ left r (now (order .exit), now (starts .exit)) ≡ improving n (lend (now (widths .entry)) (now (guards .entry))) (now (order .entry)) (now (starts .entry)) seed rounds ⌝ }
+    ensures { λ r. ⌜ left r (now (order .exit), now (starts .exit))
+        ≡ improving n (lend (now (widths .entry)) (now (guards .entry))) (now (order .entry))
+        (now (starts .entry)) seed rounds ⌝ }
 {
     planning::improve(n, widths, guards, order, starts, seed, rounds)
 }
@@ -114,7 +125,10 @@ pub extern "C" fn nesbrunka_read(
     guards: &mut [u8],
     starts: &mut [u16],
 ) -> SheetRead
-    ensures { λ r. ⌜ left r (now (labels .exit), lend (now (widths .exit)) (now (guards .exit)), now (starts .exit)) ≡ reading (now (text .entry)) (now (labels .entry)) (lend (now (widths .entry)) (now (guards .entry))) (now (starts .entry)) ⌝ }
+    ensures { λ r. ⌜ left r
+        (now (labels .exit), lend (now (widths .exit)) (now (guards .exit)), now (starts .exit))
+        ≡ reading (now (text .entry)) (now (labels .entry))
+        (lend (now (widths .entry)) (now (guards .entry))) (now (starts .entry)) ⌝ }
 {
     sheet::read(text, labels, widths, guards, starts)
 }
@@ -128,7 +142,9 @@ pub extern "C" fn nesbrunka_write(
     starts: &[u16],
     text: &mut [u8],
 ) -> SheetWritten
-    ensures { λ r. ⌜ left r (now (text .exit)) ≡ writing n (now (labels .entry)) (lend (now (widths .entry)) (now (guards .entry))) (now (starts .entry)) (now (text .entry)) ⌝ }
+    ensures { λ r. ⌜ left r (now (text .exit))
+        ≡ writing n (now (labels .entry)) (lend (now (widths .entry)) (now (guards .entry)))
+        (now (starts .entry)) (now (text .entry)) ⌝ }
 {
     sheet::write(n, labels, widths, guards, starts, text)
 }

@@ -37,7 +37,8 @@ fn planned(
     requires { ⌜ (n ≤ 128) × (length (now guards) ≡ 16384)
         × (length (now out) ≡ 45489) × (length (now line) ≡ 80) ⌝ }
     ensures { λ r. ⌜ (take (r .out) (now (out .exit))
-        ≡ plannedText n (now (labels .entry)) (lend (now (widths .entry)) (now (guards .entry))) (now (starts .entry)))
+        ≡ plannedText n (now (labels .entry)) (lend (now (widths .entry)) (now (guards .entry)))
+        (now (starts .entry)))
         × (r .out ≤ 45489) ⌝ }
     ensures { λ r. ⌜ (take (r .line) (now (line .exit))
         ≡ noteOf n (lend (now (widths .entry)) (now (guards .entry))) (now (starts .entry)))

@@ -35,7 +35,8 @@ fn put_note(
     kept: usize,
 ) -> usize
     requires { ⌜ 80 ≤ length (now line) ⌝ }
-    ensures { λ r. ⌜ Wrote (now (line .entry)) 0 (noteText n conflicts highest sided kept) r (now (line .exit)) ⌝ }
+    ensures { λ r. ⌜ Wrote (now (line .entry)) 0 (noteText n conflicts highest sided kept) r
+        (now (line .exit)) ⌝ }
     ensures { λ r. ⌜ r ≤ 80 ⌝ }
 {
     let p = put_part(line, 0, b"planned ", n);

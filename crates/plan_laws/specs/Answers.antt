@@ -1,4 +1,5 @@
--- What it means that a call answers 0: its tables are within the limits, and it leaves behind what its rule gives. Assumes nothing.
+-- What it means that a call answers 0: its tables are within the limits, and it leaves behind what its rule
+-- gives. Assumes nothing.
 use Prim.Native.Nat.{ℕ, _≤_, _<_}
 use mathlib.Core.Path.{_≡_, refl, sym, ap, _∙_}
 use mathlib.Core.Logic.{_≢_, _⊎_, inl, inr}

@@ -1,5 +1,6 @@
--- What the loop that packs an order keeps. It pushes: a table holds each path's lowest start, and each path that is placed raises the others
--- along its row of the guards, which is one step of `lowest` for all of them. Assumes nothing.
+-- What the loop that packs an order keeps. It pushes: a table holds each path's lowest start, and each path
+-- that is placed raises the others along its row of the guards, which is one step of `lowest` for all of
+-- them. Assumes nothing.
 use Prim.Native.Nat.{ℕ, _+_, _-_, _*_, _≤_, _<_, max}
 use mathlib.Core.Path.{_≡_, refl, sym, ap, subst, _∙_}
 use mathlib.Core.Bool.{cond}
@@ -24,7 +25,8 @@ use Rattle.plan_laws.specs.Bound.{lowest-climbs, next-bound}
 use Rattle.plan_laws.specs.Fits.{network-bounds}
 use Rattle.table_laws.specs.Updates.{Updated}
 
--- what a placed path asks of another, base being the slot after its end and g their guard: end + guard + 1; 0 where there is no conflict
+-- what a placed path asks of another, base being the slot after its end and g their guard: end + guard + 1;
+-- 0 where there is no conflict
 unfoldable pub asks : ℕ → ℕ → ℕ
 asks base g = cond (ltb g 255) (base + g) 0
 
@@ -44,7 +46,8 @@ asks-reach net i j s base pos e = ap (λ (x : ℕ). cond (ltb (net .guard i j) 2
 abbrev pub Raised : ℕ → List ℕ → ℕ → ℕ → List ℕ → List ℕ → Type 0
 Raised n guards i base before after = Updated (λ k x. max x (asks base (at guards (cell i k)))) before after n
 
--- where the loop stands before position p of the order: starts is the table so far, need the lowest starts, top the highest slot
+-- where the loop stands before position p of the order: starts is the table so far, need the lowest starts,
+-- top the highest slot
 pub record Stands (net : Net) (n : ℕ) (o : ℕ → ℕ) (table starts need : List ℕ) (top p : ℕ) : Type 0 where
   pub here : p ≤ n
   pub long : length starts ≡ 128

@@ -15,7 +15,8 @@ use Rattle.plan_laws.specs.Arranged.{arranged-order, arranged-least, arr
 use Rattle.plan_laws.specs.Lowest.{lowest-local}
 use Rattle.table_laws.specs.Limits.{order-once}
 
--- The greedy order is an order, and each next path's packed start is the least of those left, ties to the lowest number
+-- The greedy order is an order, and each next path's packed start is the least of those left, ties to the
+-- lowest number
 module _ (n : ℕ) (lent : Lent) (order starts : List ℕ) (w : Network n lent) (orderSize : length order ≡ 128) where
   abbrev pub greedyOrder : List ℕ
   greedyOrder = greedy (lowest (netOf lent)) n starts order n

@@ -1,5 +1,5 @@
--- What the loop that makes the greedy order keeps: the order so far, the marks of the paths in it, and the start that each path would get next.
--- Assumes nothing.
+-- What the loop that makes the greedy order keeps: the order so far, the marks of the paths in it, and the
+-- start that each path would get next. Assumes nothing.
 use Prim.Native.Nat.{ℕ, _+_, _-_, _*_, _≤_, _<_, max}
 use mathlib.Core.Path.{_≡_, refl, sym, subst, ap, _∙_}
 use mathlib.Core.List.{List}
@@ -19,7 +19,8 @@ use Rattle.plan_laws.specs.Arranging.{Arranging, arranging-first, arrang
 use Rattle.plan_laws.specs.Engine.{Stands, Raised, stands-first, stands-more, need-bound}
 use Rattle.plan_laws.specs.Greedy.{same-start}
 
--- the key by which the greedy order is arranged, and the whole order, of which the order so far is the beginning
+-- the key by which the greedy order is arranged, and the whole order, of which the order so far is the
+-- beginning
 abbrev pub greedyKey : Lent → List ℕ → List ℕ → ℕ → ℕ → ℕ
 greedyKey lent table = startNext (lowest (netOf lent)) table
 

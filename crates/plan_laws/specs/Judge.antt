@@ -13,7 +13,8 @@ use Rattle.rules.specs.Plan.{Net, Conflict, inConflict, end, Clear, isClear, Va
 use Rattle.table_laws.specs.Scans.{pair-none, pair-not, least-le, least-ge}
 
 module _ (net : Net) (p : ℕ → ℕ) where
-  -- the test of a pair is false exactly where the pair is not in conflict or one of the two is clear of the other
+  -- the test of a pair is false exactly where the pair is not in conflict or one of the two is clear of the
+  -- other
   pub quiet-clear : (i j : ℕ) → i < j → Conflict net i j → tooClose net p i j ≡ false → Clear net p i j ⊎ Clear net p j i
   unfolding tooClose
   quiet-clear i j h c e =

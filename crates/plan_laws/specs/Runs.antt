@@ -16,8 +16,9 @@ use Rattle.rules.specs.Planning.{Run, draw, stateAfter, tried, round, rounds, i
 use Rattle.plan_laws.specs.Answers.{Packable}
 use Rattle.plan_laws.specs.Improve.{Sound, round-kept, round-left, rounds-sound, rounds-length, kept-counts}
 
--- Improving: the order stays an order and its starts are its packing's; each round keeps its swap only where that strictly lowers the highest
--- slot, and else changes nothing; so the highest slot never rises, and the number kept counts the rounds that lowered it
+-- Improving: the order stays an order and its starts are its packing's; each round keeps its swap only
+-- where that strictly lowers the highest slot, and else changes nothing; so the highest slot never rises,
+-- and the number kept counts the rounds that lowered it
 module _ (n : ℕ) (lent : Lent) (order starts : List ℕ) (seed : ℕ) where
   abbrev pub highestOf : List ℕ → ℕ
   highestOf = height (netOf lent) n (lowest (netOf lent)) starts
@@ -39,7 +40,8 @@ module _ (n : ℕ) (lent : Lent) (order starts : List ℕ) (seed : ℕ) where
     pub run-packable : (k : ℕ) → Packable n lent (runAfter k .order) starts
     run-packable k = record { network = p .network; orderSize = run-length k; startsSize = p .startsSize; whole = run-sound k .0 .whole }
 
-    -- one round more: the order that it tries is kept exactly where its highest slot is strictly lower, and counted; else nothing changes
+    -- one round more: the order that it tries is kept exactly where its highest slot is strictly lower, and
+    -- counted; else nothing changes
     pub run-step : (k : ℕ)
         → ((highestOf (tried n (runAfter k)) < runAfter k .highest) × (runAfter (suc k) .order ≡ tried n (runAfter k))
         × (runAfter (suc k) .highest ≡ highestOf (tried n (runAfter k))) × (runAfter (suc k) .kept ≡ suc (runAfter k .kept)))

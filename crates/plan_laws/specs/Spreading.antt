@@ -1,5 +1,5 @@
--- What the loop that finds the sides keeps: the marks of the paths passed, which paths touch one of them, and the mark that each would get next.
--- Assumes nothing.
+-- What the loop that finds the sides keeps: the marks of the paths passed, which paths touch one of them,
+-- and the mark that each would get next. Assumes nothing.
 use Prim.Native.Nat.{ℕ, suc, _+_, _-_, _≤_, _<_}
 use mathlib.Core.Path.{_≡_, refl, sym, ap, _∙_}
 use mathlib.Core.Bool.{Bool, true, false, cond, not, _||_}
@@ -40,7 +40,8 @@ pub record Spreading (n : ℕ) (lent : Lent) (mark keys asked : List ℕ) (m : �
   pub sides : (k : ℕ) → k < n → (1 ≤ at asked k) × (at asked k ≤ 2)
   pub marked : (k : ℕ) → k < n → isMarked mark k ≡ placed (spreadPath n lent) m k
 
--- the cells of the paths in conflict with path c hold a value: once c has been marked they touch it, and they would get the other mark
+-- the cells of the paths in conflict with path c hold a value: once c has been marked they touch it, and
+-- they would get the other mark
 abbrev pub Spread : ℕ → List ℕ → ℕ → ℕ → List ℕ → List ℕ → Type 0
 Spread n guards c value before after = Updated (λ k x. cond (ltb (at guards (cell c k)) 255) value x) before after n
 

@@ -1,5 +1,6 @@
-// The two sides, improving, planning and the floor. Each call is lent its tables, tests them in the order of their numbers, and has one promise:
-// what it leaves behind is what the definition of its name in `rules` says. Every `pub fn` here is a call.
+// The two sides, improving, planning and the floor. Each call is lent its tables, tests them in the order
+// of their numbers, and has one promise: what it leaves behind is what the definition of its name in
+// `rules` says. Every `pub fn` here is a call.
 use rules::Fault;
 use rules::Floored;
 use rules::Planned;
@@ -17,7 +18,8 @@ ghost use Rattle.plan_laws.specs.Answers.{Packable, Plannable};
 
 // Finds the two sides: the two-sided order goes into its table, and the size of the low side is answered.
 pub fn two_sides(n: usize, widths: &[u16], guards: &[u8], order: &mut [u8]) -> Sided
-    ensures { λ r. ⌜ left r (now (order .exit)) ≡ siding n (lend (now (widths .entry)) (now (guards .entry))) (now (order .entry)) ⌝ }
+    ensures { λ r. ⌜ left r (now (order .exit))
+        ≡ siding n (lend (now (widths .entry)) (now (guards .entry))) (now (order .entry)) ⌝ }
 {
     let sizes = tables::size_fault(order.len(), rules::PATHS);
     let f = tables::lent_fault(n, widths, guards, sizes);
@@ -69,7 +71,9 @@ fn improved_plan(
     rounds: usize,
 ) -> Planned
     requires { ⌜ Packable n (lend (now widths) (now guards)) (now order) (now starts) × (rounds ≤ 10000) ⌝ }
-    ensures { λ r. ⌜ left r (now (order .exit), now (starts .exit)) ≡ doneImproved (netOf (lend (now (widths .entry)) (now (guards .entry)))) n (now (order .entry)) (now (starts .entry)) seed rounds ⌝ }
+    ensures { λ r. ⌜ left r (now (order .exit), now (starts .exit))
+        ≡ doneImproved (netOf (lend (now (widths .entry)) (now (guards .entry)))) n (now (order .entry))
+        (now (starts .entry)) seed rounds ⌝ }
 {
     let run = rounds::improve_order(n, widths, guards, order, seed, rounds);
     let h = engine::pack_into(n, widths, guards, order, starts);
@@ -81,7 +85,8 @@ fn improved_plan(
     }
 }
 
-// Improves an order: the order and its starts go into their tables; its highest slot and the number of swaps kept are answered.
+// Improves an order: the order and its starts go into their tables; its highest slot and the number of
+// swaps kept are answered.
 pub fn improve(
     n: usize,
     widths: &[u16],
@@ -91,7 +96,9 @@ pub fn improve(
     seed: u32,
     rounds: usize,
 ) -> Planned
-    ensures { λ r. ⌜ left r (now (order .exit), now (starts .exit)) ≡ improving n (lend (now (widths .entry)) (now (guards .entry))) (now (order .entry)) (now (starts .entry)) seed rounds ⌝ }
+    ensures { λ r. ⌜ left r (now (order .exit), now (starts .exit))
+        ≡ improving n (lend (now (widths .entry)) (now (guards .entry))) (now (order .entry))
+        (now (starts .entry)) seed rounds ⌝ }
 {
     let packing = tables::pack_fault(n, widths, guards, order, starts.len());
     let f = then_rounds(packing, rounds);
@@ -115,8 +122,13 @@ fn sided_plan(
     order: &mut [u8],
     starts: &mut [u16],
 ) -> Planned
-    requires { ⌜ Network n (lend (now widths) (now guards)) × ((now mark ≡ marks (netOf (lend (now widths) (now guards))) n) × ((length (now order) ≡ 128) × (length (now starts) ≡ 128))) ⌝ }
-    ensures { λ r. ⌜ left r (now (order .exit), now (starts .exit)) ≡ donePlanned (netOf (lend (now (widths .entry)) (now (guards .entry)))) n (twoSided n (isHigh (netOf (lend (now (widths .entry)) (now (guards .entry)))) n) (now (order .entry))) (now (starts .entry)) 0 ⌝ }
+    requires { ⌜ Network n (lend (now widths) (now guards))
+        × ((now mark ≡ marks (netOf (lend (now widths) (now guards))) n)
+        × ((length (now order) ≡ 128) × (length (now starts) ≡ 128))) ⌝ }
+    ensures { λ r. ⌜ left r (now (order .exit), now (starts .exit))
+        ≡ donePlanned (netOf (lend (now (widths .entry)) (now (guards .entry)))) n
+        (twoSided n (isHigh (netOf (lend (now (widths .entry)) (now (guards .entry)))) n)
+        (now (order .entry))) (now (starts .entry)) 0 ⌝ }
 {
     sides::order_sides(n, mark, order);
     let h = engine::pack_into(n, widths, guards, order, starts);
@@ -139,7 +151,9 @@ fn chosen_plan(
     rounds: usize,
 ) -> Planned
     requires { ⌜ Plannable n (lend (now widths) (now guards)) (now order) (now starts) seed rounds ⌝ }
-    ensures { λ r. ⌜ left r (now (order .exit), now (starts .exit)) ≡ donePlan (netOf (lend (now (widths .entry)) (now (guards .entry)))) n (now (order .entry)) (now (starts .entry)) seed rounds ⌝ }
+    ensures { λ r. ⌜ left r (now (order .exit), now (starts .exit))
+        ≡ donePlan (netOf (lend (now (widths .entry)) (now (guards .entry)))) n (now (order .entry))
+        (now (starts .entry)) seed rounds ⌝ }
 {
     let mut mark = [0u8; rules::PATHS];
     if sides::find_sides(n, guards, &mut mark) {
@@ -149,7 +163,8 @@ fn chosen_plan(
     improved_plan(n, widths, guards, order, starts, seed, rounds)
 }
 
-// Plans: the order and its starts go into their tables, whose contents are not tested; its highest slot and the number of swaps kept are answered.
+// Plans: the order and its starts go into their tables, whose contents are not tested; its highest slot and
+// the number of swaps kept are answered.
 pub fn plan(
     n: usize,
     widths: &[u16],
@@ -159,7 +174,9 @@ pub fn plan(
     seed: u32,
     rounds: usize,
 ) -> Planned
-    ensures { λ r. ⌜ left r (now (order .exit), now (starts .exit)) ≡ planning n (lend (now (widths .entry)) (now (guards .entry))) (now (order .entry)) (now (starts .entry)) seed rounds ⌝ }
+    ensures { λ r. ⌜ left r (now (order .exit), now (starts .exit))
+        ≡ planning n (lend (now (widths .entry)) (now (guards .entry))) (now (order .entry))
+        (now (starts .entry)) seed rounds ⌝ }
 {
     let sizes = tables::plan_sizes(order.len(), starts.len());
     let network = tables::lent_fault(n, widths, guards, sizes);
@@ -177,7 +194,8 @@ pub fn plan(
 
 // The tests of the floor: 2, 1, 3, 4, 5, 15.
 fn floor_fault(n: usize, widths: &[u16], guards: &[u8], list: &[u8]) -> Fault
-    ensures { λ r. ⌜ r ≡ floorFault n (lend (now (widths .entry)) (now (guards .entry))) (now (list .entry)) ⌝ }
+    ensures { λ r. ⌜ r ≡ floorFault n (lend (now (widths .entry)) (now (guards .entry)))
+        (now (list .entry)) ⌝ }
 {
     let sizes = tables::accepted();
     let f = tables::lent_fault(n, widths, guards, sizes);

@@ -32,7 +32,8 @@ fn fill_numbers(table: &mut [u16], value: u16)
 // A cleared table holds 0 in every cell, that of the guards "no conflict".
 fn clear(labels: &mut [u8], widths: &mut [u16], guards: &mut [u8], starts: &mut [u16])
     requires { ⌜ Sized (now labels) (now widths) (now guards) (now starts) ⌝ }
-    ensures { λ _. ⌜ Blank (now (labels .exit)) (now (widths .exit)) (now (guards .exit)) (now (starts .exit)) ⌝ }
+    ensures { λ _. ⌜ Blank (now (labels .exit)) (now (widths .exit)) (now (guards .exit))
+        (now (starts .exit)) ⌝ }
 {
     fill_bytes(labels, 0);
     fill_numbers(widths, 0);
@@ -49,7 +50,8 @@ pub fn read_sized(
     starts: &mut [u16],
 ) -> SheetRead
     requires { ⌜ Sized (now labels) (now widths) (now guards) (now starts) ⌝ }
-    ensures { λ r. ⌜ left r (now (labels .exit), lend (now (widths .exit)) (now (guards .exit)), now (starts .exit))
+    ensures { λ r. ⌜ left r
+        (now (labels .exit), lend (now (widths .exit)) (now (guards .exit)), now (starts .exit))
         ≡ readOutcome (sheetFrom (cleared 1024 0) clearedNetwork (cleared 128 0) (now (text .entry))) ⌝ }
 {
     clear(labels, widths, guards, starts);

@@ -1,4 +1,5 @@
--- Where improving stands, as the code holds it: the numbers in a struct, and the order in its table. Assumes nothing.
+-- Where improving stands, as the code holds it: the numbers in a struct, and the order in its table.
+-- Assumes nothing.
 use Prim.Native.Nat.{ℕ}
 use mathlib.Core.Path.{_≡_}
 use mathlib.Core.List.{List}

@@ -11,17 +11,21 @@ ghost use Rattle.rules.specs.Plan.{netOf};
 ghost use Rattle.rules.specs.Packing.{lowest};
 ghost use Rattle.rounds.specs.Standing.{runOf, highestOf, Tried};
 
-// Where improving stands: the state of the draws, the highest slot of the order so far, and the number of swaps kept.
+// Where improving stands: the state of the draws, the highest slot of the order so far, and the number of
+// swaps kept.
 pub struct Standing {
     pub state: u32,
     pub highest: usize,
     pub kept: usize,
 }
 
-// One round: two places are drawn and swapped, and the swap is undone unless the packed order is strictly lower. No table is tested here.
+// One round: two places are drawn and swapped, and the swap is undone unless the packed order is strictly
+// lower. No table is tested here.
 fn one_round(n: usize, widths: &[u16], guards: &[u8], order: &mut [u8], run: Standing) -> Standing
     requires { ⌜ Tried n (lend (now widths) (now guards)) (now order) × (run .kept < 10000) ⌝ }
-    ensures { λ r. ⌜ ((table : List ℕ) → length table ≡ 128 → runOf r (now (order .exit)) ≡ round (highestOf n (lend (now (widths .entry)) (now (guards .entry))) table) n (runOf run (now (order .entry)))) ⌝ }
+    ensures { λ r. ⌜ ((table : List ℕ) → length table ≡ 128 → runOf r (now (order .exit))
+        ≡ round (highestOf n (lend (now (widths .entry)) (now (guards .entry))) table) n
+        (runOf run (now (order .entry)))) ⌝ }
 {
     let x = draws::next_state(run.state);
     let y = draws::next_state(x);
@@ -54,7 +58,10 @@ pub fn improve_order(
     count: usize,
 ) -> Standing
     requires { ⌜ Tried n (lend (now widths) (now guards)) (now order) × (count ≤ 10000) ⌝ }
-    ensures { λ r. ⌜ ((table : List ℕ) → length table ≡ 128 → runOf r (now (order .exit)) ≡ improved (netOf (lend (now (widths .entry)) (now (guards .entry)))) n (lowest (netOf (lend (now (widths .entry)) (now (guards .entry))))) table (now (order .entry)) seed count) ⌝ }
+    ensures { λ r. ⌜ ((table : List ℕ) → length table ≡ 128 → runOf r (now (order .exit))
+        ≡ improved (netOf (lend (now (widths .entry)) (now (guards .entry)))) n
+        (lowest (netOf (lend (now (widths .entry)) (now (guards .entry))))) table (now (order .entry)) seed
+        count) ⌝ }
 {
     let h = engine::height_of(n, widths, guards, order);
     let mut run = Standing {

@@ -65,7 +65,8 @@ siding n lent order =
     (λ f. left (record { number = f .number; place = f .place; low = 0 }) order)
     (left (record { number = 0; place = 0; low = lowSide n high }) (twoSided n high order))
 
--- improve(n, widths, guards, order, starts, seed, rounds), which writes the order and the starts; so does planning
+-- improve(n, widths, guards, order, starts, seed, rounds), which writes the order and the starts; so does
+-- planning
 unfoldable pub refusedPlanned : List ℕ → List ℕ → Fault → Left Planned (List ℕ × List ℕ)
 refusedPlanned order starts f = left (record { number = f .number; place = f .place; highest = 0; kept = 0 }) (order, starts)
 

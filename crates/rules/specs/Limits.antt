@@ -23,7 +23,8 @@ pub record Starts (n : ℕ) (starts : List ℕ) : Type 0 where
   pub size : length starts ≡ 128
   pub start : (k : ℕ) → k < n → (1 ≤ at starts k) × (at starts k ≤ 16384)
 
--- what a call leaves of a table that it may write: the size is the same, and the cells of index n or more are as they were
+-- what a call leaves of a table that it may write: the size is the same, and the cells of index n or more
+-- are as they were
 pub record KeptFrom (n : ℕ) (before after : List ℕ) : Type 0 where
   pub size : length after ≡ length before
   pub cells : (k : ℕ) → n ≤ k → at after k ≡ at before k

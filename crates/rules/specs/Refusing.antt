@@ -1,5 +1,6 @@
--- Document 01, "Numbers returned", as statements: what each test finds at fault and where, the tests of each call in their order, and the answer that
--- such a row of tests gives. No test of the definitions is used here: these words are what the definitions are held to. Assumes nothing.
+-- RULES 17 and 18 as statements: what each test finds at fault and where, the tests of each call in their
+-- order, and the answer that such a row of tests gives. No test of the definitions is used here: these
+-- words are what the definitions are held to. Assumes nothing.
 use Prim.Native.Nat.{ℕ, _≤_, _<_}
 use mathlib.Core.Path.{_≡_}
 use mathlib.Core.Logic.{_≢_, _⊎_}
@@ -22,19 +23,22 @@ pub record Test : Type 1 where
 abbrev pub Nowhere : Test → Type 0
 Nowhere t = (p : ℕ) → t .Bad p → ⊥
 
--- an answer is a test's refusal: its number is the test's, something is at fault at its place, and nothing at a lower one
+-- an answer is a test's refusal: its number is the test's, something is at fault at its place, and nothing
+-- at a lower one
 pub record Refusal (t : Test) (f : Fault) : Type 0 where
   pub some : 0 < f .number
   pub number : f .number ≡ t .number
   pub bad : t .Bad (f .place)
   pub first : (p : ℕ) → p < f .place → t .Bad p → ⊥
 
--- what tests give in their order: the refusal of the first that finds something at fault, and 0 with place 0 where none does
+-- what tests give in their order: the refusal of the first that finds something at fault, and 0 with place
+-- 0 where none does
 unfoldable pub Gives : List Test → Fault → Type 0
 Gives [] f = f ≡ noFault
 Gives (t ∷ ts) f = Refusal t f ⊎ (Nowhere t × Gives ts f)
 
--- The kinds of tests: one of a whole, with place 0; one of each index below n; one of each cell of the first n rows and columns
+-- The kinds of tests: one of a whole, with place 0; one of each index below n; one of each cell of the
+-- first n rows and columns
 abbrev pub once : ℕ → Type 0 → Test
 once number Bad = record { number = number; Bad = λ p. (p ≡ 0) × Bad }
 
@@ -47,47 +51,47 @@ cells number n Bad = record { number = number; Bad = λ p. (i : ℕ) × (j : ℕ
 abbrev pub Outside : ℕ → ℕ → ℕ → Type 0
 Outside least most x = (x < least) ⊎ (most < x)
 
--- 2: a lent table is not of its size
+-- 2: a table has not its size
 abbrev pub sizeTest : List ℕ → ℕ → Test
 sizeTest table size = once 2 (length table ≢ size)
 
--- 1: n not 1 to 128
+-- 1: n outside 1 to 128
 abbrev pub countTest : ℕ → Test
 countTest n = once 1 (Outside 1 128 n)
 
--- 3: width not 1 to 64
+-- 3: a width outside 1 to 64
 abbrev pub widthTest : ℕ → List ℕ → Test
 widthTest n widths = each 3 n (λ k. Outside 1 64 (at widths k))
 
--- 4: guard cell not 0 to 32 or 255, diagonal not 255
+-- 4: a cell that is neither a guard of 0 to 32 nor 255; on the diagonal all but 255
 abbrev pub guardTest : ℕ → List ℕ → Test
 guardTest n guards = cells 4 n (λ i j. (at guards (cell i j) ≢ 255) × ((i ≡ j) ⊎ (32 < at guards (cell i j))))
 
--- 5: cell with i<j unequal to its mirror
+-- 5: a cell above the diagonal that differs from its mirror
 abbrev pub mirrorTest : ℕ → List ℕ → Test
 mirrorTest n guards = cells 5 n (λ i j. (i < j) × (at guards (cell i j) ≢ at guards (cell j i)))
 
--- 6: order entry n or more, or seen earlier
+-- 6: an entry that is no path, or that comes a second time
 abbrev pub entryTest : ℕ → List ℕ → Test
 entryTest n order = each 6 n (λ k. (n ≤ at order k) ⊎ ((i : ℕ) × (i < k) × (at order i ≡ at order k)))
 
--- 7: start not 1 to 16,384
+-- 7: a start outside 1 to 16,384
 abbrev pub startTest : ℕ → List ℕ → Test
 startTest n starts = each 7 n (λ k. Outside 1 16384 (at starts k))
 
--- 8: conflicting pair, i<j, too close: neither starts above the other's end plus their guard
+-- 8: a conflicting pair that is too close: neither path is clear of the other
 abbrev pub clashTest : ℕ → Net → List ℕ → Test
 clashTest n net starts = cells 8 n (λ i j. (i < j) × (Conflict net i j × ((Clear net (at starts) i j ⊎ Clear net (at starts) j i) → ⊥)))
 
--- 9: no two sides: there is no way to put each path on a side so that every conflict joins low to high
+-- 9: there is no way to put each path on a side so that every conflict is across
 abbrev pub sidesTest : ℕ → Net → Test
 sidesTest n net = once 9 ((high : ℕ → Bool) → Split net n high → ⊥)
 
--- 10: rounds over 10,000
+-- 10: more than 10,000 rounds
 abbrev pub roundsTest : ℕ → Test
 roundsTest rounds = once 10 (10000 < rounds)
 
--- 15: list empty or over 8; entry out of range, repeated or not in conflict with an earlier one
+-- 15: a list of wrong length; an entry that is no path, comes again, or has no conflict with an earlier one
 abbrev pub lengthTest : List ℕ → Test
 lengthTest list = once 15 (Outside 1 8 (length list))
 
@@ -96,11 +100,11 @@ memberTest n net list =
     each 15 (length list)
     (λ k. (n ≤ at list k) ⊎ ((i : ℕ) × (i < k) × ((at list i ≡ at list k) ⊎ (Conflict net (at list i) (at list k) → ⊥))))
 
--- "digits, capitals and hyphen"
+-- a digit, a capital or a hyphen
 abbrev pub LabelByte : ℕ → Type 0
 LabelByte x = (((48 ≤ x) × (x ≤ 57)) ⊎ ((65 ≤ x) × (x ≤ 90))) ⊎ (x ≡ 45)
 
--- path k's eight bytes are a label: "1 to 8" such bytes, "filled at the end with zero bytes"
+-- path k's eight bytes are a label: 1 to 8 such bytes, then zero bytes
 pub record Labelled (labels : List ℕ) (k : ℕ) : Type 0 where
   pub size : ℕ
   pub some : 1 ≤ size
@@ -108,27 +112,28 @@ pub record Labelled (labels : List ℕ) (k : ℕ) : Type 0 where
   pub bytes : (j : ℕ) → j < size → LabelByte (labelByte labels k j)
   pub rest : (j : ℕ) → size ≤ j → j < 8 → labelByte labels k j ≡ 0
 
--- 11: wrong form of a label
+-- 11: a label has not its form
 abbrev pub labelTest : ℕ → List ℕ → Test
 labelTest n labels = each 11 n (λ k. Labelled labels k → ⊥)
 
--- 12: label twice: that of an earlier path, byte for byte
+-- 12: an earlier path's label, byte for byte
 abbrev pub labelTwiceTest : ℕ → List ℕ → Test
 labelTwiceTest n labels = each 12 n (λ k. (i : ℕ) × (i < k) × ((j : ℕ) → j < 8 → labelByte labels i j ≡ labelByte labels k j))
 
--- 1, of a sheet that is written: G over 2,000
+-- 1, of a sheet that is written: more than 2,000 pairs
 abbrev pub pairsTest : ℕ → List ℕ → Test
 pairsTest n guards = once 1 (2000 < pairs n guards)
 
--- 7, there: where any of the n starts is not zero
+-- 7, there: only where there is a plan to write
 abbrev pub writtenStartTest : ℕ → List ℕ → Test
 writtenStartTest n starts = each 7 n (λ k. ((i : ℕ) × (i < n) × (at starts i ≢ 0)) × Outside 1 16384 (at starts k))
 
--- 16: written sheet longer than the lent text
+-- 16: the sheet does not fit into the lent text
 abbrev pub roomTest : ℕ → List ℕ → Lent → List ℕ → List ℕ → Test
 roomTest n labels lent starts text = once 16 (length text < length (sheetText n labels lent starts))
 
--- The tests of each call, in their order. 2, 1, 3, 4, 5 are the same for all, but for 2 of the tables lent beside the network
+-- The tests of each call, in their order. 2, 1, 3, 4, 5 are the same for all, but for 2 of the tables lent
+-- beside the network
 unfoldable pub networkTests : ℕ → Lent → List Test
 networkTests n lent = countTest n ∷ widthTest n (lent .widths) ∷ guardTest n (lent .guards) ∷ mirrorTest n (lent .guards) ∷ []
 

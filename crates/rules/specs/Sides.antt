@@ -11,7 +11,8 @@ use Rattle.rules.specs.Plan.{Net, Conflict, inConflict}
 use Rattle.rules.specs.Packing.{Rule, packed}
 use Rattle.rules.specs.Pressing.{arranged}
 
--- a walk along conflicts from path i, with whether it is of odd length. Two paths are in one connected part where a walk joins them
+-- a walk along conflicts from path i, with whether it is of odd length. Two paths are in one connected part
+-- where a walk joins them
 pub data Walk (net : Net) (n i : ℕ) : ℕ → Bool → Type 0 where
   here : Walk net n i i false
   step : {j k : ℕ} {odd : Bool} → Walk net n i j odd → k < n → Conflict net j k → Walk net n i k (not odd)
@@ -20,12 +21,14 @@ pub data Walk (net : Net) (n i : ℕ) : ℕ → Bool → Type 0 where
 abbrev pub Split : Net → ℕ → (ℕ → Bool) → Type 0
 Split net n high = (i j : ℕ) → i < n → j < n → Conflict net i j → high j ≡ not (high i)
 
--- the sides: path k that no walk joins to a path of a lower number has the lowest number of its connected part, and is low
+-- the sides: path k that no walk joins to a path of a lower number has the lowest number of its connected
+-- part, and is low
 pub record Sides (net : Net) (n : ℕ) (high : ℕ → Bool) : Type 0 where
   pub split : Split net n high
   pub lowest : (k : ℕ) → k < n → ((j : ℕ) (odd : Bool) → j < k → Walk net n j k odd → ⊥) → high k ≡ false
 
--- Finding them. An order that goes on to a path in conflict with an earlier one wherever there is one, and else to the lowest number left
+-- Finding them. An order that goes on to a path in conflict with an earlier one wherever there is one, and
+-- else to the lowest number left
 unfoldable pub touches : Net → (ℕ → ℕ) → ℕ → ℕ → Bool
 touches net order m k = found (λ i. inConflict net (order i) k) m
 

@@ -1,5 +1,5 @@
--- More worked figures, beside P1 to P10: sheets, chosen so that each holds several constants of document 01, computed from the definitions
--- over tables of full size. Assumes nothing.
+-- More worked figures, beside P1 to P10: sheets, chosen so that each holds several constants of RULES 13 to 19,
+-- computed from the definitions over tables of full size. Assumes nothing.
 use Prim.Native.Nat.{ℕ, _+_}
 use Prim.Native.String.{String}
 use mathlib.Core.Path.{_≡_, refl}
@@ -43,7 +43,8 @@ one line = bytes "paths 1\n" ++ bytes line ++ bytes "\nguards 0\n"
 pair : String → List ℕ
 pair rest = bytes "paths 2\nA 1\nB 64\n" ++ bytes rest
 
--- what the writer does with the sheet of A and B and a guard, where the cell c of the labels is v, and the starts are a and b, in a text of 99 bytes
+-- what the writer does with the sheet of A and B and a guard, where the cell c of the labels is v, and the
+-- starts are a and b, in a text of 99 bytes
 written : ℕ → ℕ → ℕ → ℕ → Left SheetWritten (List ℕ)
 written c v a b =
     let t = readOver (pair "guards 1\nB A 32\n") .tables in

@@ -1,4 +1,5 @@
-// An inner crate, for the readers of sheets: the lines of a section one after the other, and the first of them at fault.
+// An inner crate, for the readers of sheets: the lines of a section one after the other, and the first of
+// them at fault.
 ghost use mathlib.Core.Path.{_≡_};
 ghost use mathlib.Core.List.{List};
 ghost use Prim.Native.Nat.{ℕ, _+_, _*_, _≤_};
@@ -23,8 +24,12 @@ pub fn paths(
     widths: &mut [u16],
     keys: &mut [usize],
 ) -> Part
-    requires { ⌜ (place ≤ length (now text)) × (8 * n ≤ length (now labels)) × (n ≤ length (now widths)) × (n ≤ length (now keys)) × (n ≤ 128) ⌝ }
-    ensures { λ r. ⌜ PathsAre (now (text .entry)) (now (labels .exit)) (now (widths .exit)) (now (keys .exit)) n (lines pathStep 2 n 0 (now (labels .entry), now (widths .entry)) (drop place (now (text .entry)))) r ⌝ }
+    requires { ⌜ (place ≤ length (now text)) × (8 * n ≤ length (now labels)) × (n ≤ length (now widths))
+        × (n ≤ length (now keys)) × (n ≤ 128) ⌝ }
+    ensures { λ r. ⌜ PathsAre (now (text .entry)) (now (labels .exit)) (now (widths .exit))
+        (now (keys .exit)) n
+        (lines pathStep 2 n 0 (now (labels .entry), now (widths .entry)) (drop place (now (text .entry))))
+        r ⌝ }
 {
     let mut k = 0;
     let mut i = place;
@@ -51,9 +56,13 @@ pub fn guards(
     keys: &[usize],
     guards: &mut [u8],
 ) -> Part
-    requires { ⌜ (place ≤ length (now text)) × (n ≤ 128) × (n ≤ length (now keys)) × (length (now guards) ≡ 16384) × (m ≤ 2000) ⌝ }
-    ensures { λ r. ⌜ PartWithin (now (text .entry)) r × ((labels : List ℕ) → Keyed labels (now (keys .entry)) n
-        → SectionIs (now (text .entry)) (now (guards .exit)) (lines (guardStep n labels) (n + 3) m 0 (now (guards .entry)) (drop place (now (text .entry)))) r) ⌝ }
+    requires { ⌜ (place ≤ length (now text)) × (n ≤ 128) × (n ≤ length (now keys))
+        × (length (now guards) ≡ 16384) × (m ≤ 2000) ⌝ }
+    ensures { λ r. ⌜ PartWithin (now (text .entry)) r
+        × ((labels : List ℕ) → Keyed labels (now (keys .entry)) n
+        → SectionIs (now (text .entry)) (now (guards .exit))
+        (lines (guardStep n labels) (n + 3) m 0 (now (guards .entry)) (drop place (now (text .entry))))
+        r) ⌝ }
 {
     let mut k = 0;
     let mut i = place;
@@ -80,9 +89,12 @@ pub fn starts(
     keys: &[usize],
     starts: &mut [u16],
 ) -> Part
-    requires { ⌜ (place ≤ length (now text)) × (n ≤ 128) × (n ≤ length (now keys)) × (n ≤ length (now starts)) × (line ≤ 10000) ⌝ }
-    ensures { λ r. ⌜ PartWithin (now (text .entry)) r × ((labels : List ℕ) → Keyed labels (now (keys .entry)) n
-        → SectionIs (now (text .entry)) (now (starts .exit)) (lines (startStep labels) line n 0 (now (starts .entry)) (drop place (now (text .entry)))) r) ⌝ }
+    requires { ⌜ (place ≤ length (now text)) × (n ≤ 128) × (n ≤ length (now keys))
+        × (n ≤ length (now starts)) × (line ≤ 10000) ⌝ }
+    ensures { λ r. ⌜ PartWithin (now (text .entry)) r
+        × ((labels : List ℕ) → Keyed labels (now (keys .entry)) n
+        → SectionIs (now (text .entry)) (now (starts .exit))
+        (lines (startStep labels) line n 0 (now (starts .entry)) (drop place (now (text .entry)))) r) ⌝ }
 {
     let mut k = 0;
     let mut i = place;

@@ -13,8 +13,10 @@ pub fn read(
     guards: &mut [u8],
     starts: &mut [u16],
 ) -> SheetRead
-    ensures { λ r. ⌜ left r (now (labels .exit), lend (now (widths .exit)) (now (guards .exit)), now (starts .exit))
-        ≡ reading (now (text .entry)) (now (labels .entry)) (lend (now (widths .entry)) (now (guards .entry))) (now (starts .entry)) ⌝ }
+    ensures { λ r. ⌜ left r
+        (now (labels .exit), lend (now (widths .exit)) (now (guards .exit)), now (starts .exit))
+        ≡ reading (now (text .entry)) (now (labels .entry))
+        (lend (now (widths .entry)) (now (guards .entry))) (now (starts .entry)) ⌝ }
 {
     let sizes = sheet_tables::sheet_sizes(labels, widths, guards, starts);
     if sizes.number != 0 {
@@ -27,7 +29,8 @@ pub fn read(
     reader::read_sized(text, labels, widths, guards, starts)
 }
 
-// Writes a sheet into a lent text. The length is known before the first byte is written: 16 leaves the text unchanged.
+// Writes a sheet into a lent text. The length is known before the first byte is written: 16 leaves the text
+// unchanged.
 pub fn write(
     n: usize,
     labels: &[u8],
@@ -37,7 +40,8 @@ pub fn write(
     text: &mut [u8],
 ) -> SheetWritten
     ensures { λ r. ⌜ left r (now (text .exit))
-        ≡ writing n (now (labels .entry)) (lend (now (widths .entry)) (now (guards .entry))) (now (starts .entry)) (now (text .entry)) ⌝ }
+        ≡ writing n (now (labels .entry)) (lend (now (widths .entry)) (now (guards .entry)))
+        (now (starts .entry)) (now (text .entry)) ⌝ }
 {
     let fault = sheet_tables::table_fault(n, labels, widths, guards, starts);
     if fault.number != 0 {

@@ -1,5 +1,6 @@
--- The answer to a text does not depend on more than its first 45,490 bytes: the longest sheet, and one byte that shows whether the text ends
--- there. Each field looks at few bytes, and a line that is followed by another has passed its tests and is short. Assumes nothing.
+-- The answer to a text does not depend on more than its first 45,490 bytes: the longest sheet, and one byte
+-- that shows whether the text ends there. Each field looks at few bytes, and a line that is followed by
+-- another has passed its tests and is short. Assumes nothing.
 use Prim.Native.Nat.{ℕ, zero, suc, _+_, _-_, _*_, _^_, _≤_, _<_}
 use mathlib.Core.Path.{_≡_, refl, sym, ap}
 use mathlib.Core.Bool.{Bool, true, false, cond, not, _&&_, _||_, true≢false}
@@ -26,7 +27,8 @@ record Front (b : ℕ) (l l′ : List ℕ) : Type 0 where
 less : (a b : ℕ) (l l′ : List ℕ) → a ≤ b → Front b l l′ → Front a l l′
 less a b l l′ h f = record { kept = f .kept; enough = omega (arith, f .enough); same = f .same }
 
--- two texts read alike: neither begins with the field, or both with the same one, and R holds of it and the texts after it
+-- two texts read alike: neither begins with the field, or both with the same one, and R holds of it and the
+-- texts after it
 data Alike {A : Type 0} (R : A → List ℕ → List ℕ → Type 0) : Parsed A → Parsed A → Type 0 where
   neither : Alike R none none
   both : (a : A) (r r′ : List ℕ) → R a r r′ → Alike R (some a r) (some a r′)

@@ -1,4 +1,5 @@
--- The laws of lines and sections, by what their tests say: what code that reads has to show, and what the round trip uses. Assumes nothing.
+-- The laws of lines and sections, by what their tests say: what code that reads has to show, and what the
+-- round trip uses. Assumes nothing.
 use Prim.Native.Nat.{ℕ, suc, _+_, _-_, _≤_, _<_}
 use mathlib.Core.Path.{_≡_, refl}
 use mathlib.Core.Bool.{true, false}

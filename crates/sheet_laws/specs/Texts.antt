@@ -1,5 +1,5 @@
--- The laws of fields. A field at a place of a text, as code finds it: the text from that place on. And a field as the writer puts it down,
--- read back. Assumes nothing.
+-- The laws of fields. A field at a place of a text, as code finds it: the text from that place on. And a
+-- field as the writer puts it down, read back. Assumes nothing.
 use Prim.Native.Nat.{ℕ, zero, suc, _+_, _-_, _*_, _/_, _%_, _^_, _≤_, _<_}
 use mathlib.Core.Path.{_≡_, refl, sym, ap, _∙_}
 use mathlib.Core.Bool.{Bool, true, false, _&&_, _||_, true≢false}
@@ -237,7 +237,8 @@ spell-more (suc k) n h = go (decLt n 10) (spell-more k (n / 10) (less (suc k) n 
     go (yes s) e = spell-small _ n s ∙ sym (spell-small _ n s)
     go (no s) e = rw (spell-big (suc (suc k)) n (omega (arith, s)), spell-big (suc k) n (omega (arith, s)), e)
 
--- what the digits of n are: they spell n, they are digits, they are 1 to k, and they begin with 0 only where n is 0
+-- what the digits of n are: they spell n, they are digits, they are 1 to k, and they begin with 0 only
+-- where n is 0
 pub record Spelled (k n : ℕ) (w : List ℕ) : Type 0 where
   pub value : valueFrom 0 w ≡ n
   pub digits : All isDigit w

@@ -1,4 +1,5 @@
--- The laws of the sheet's text: its pieces, their lengths, and writing one piece after the other. Assumes nothing.
+-- The laws of the sheet's text: its pieces, their lengths, and writing one piece after the other. Assumes
+-- nothing.
 use Prim.Native.Nat.{ℕ, zero, suc, _+_, _-_, _*_, _/_, _%_, _≤_, _<_}
 use mathlib.Core.Path.{_≡_, refl, sym, ap, _∙_}
 use mathlib.Core.Logic.{_≢_}

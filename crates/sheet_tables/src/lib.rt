@@ -24,7 +24,8 @@ fn label_sizes(labels: &[u8], starts: &[u16]) -> Fault
 
 // 2, of all four tables of a sheet.
 pub fn sheet_sizes(labels: &[u8], widths: &[u16], guards: &[u8], starts: &[u16]) -> Fault
-    ensures { λ r. ⌜ r ≡ sheetSizes (now (labels .entry)) (lend (now (widths .entry)) (now (guards .entry))) (now (starts .entry)) ⌝ }
+    ensures { λ r. ⌜ r ≡ sheetSizes (now (labels .entry))
+        (lend (now (widths .entry)) (now (guards .entry))) (now (starts .entry)) ⌝ }
 {
     let f = tables::network_sizes(widths, guards);
     if f.number != 0 {
@@ -50,7 +51,8 @@ fn label_fault(n: usize, labels: &[u8]) -> Fault
 
 // 12, over all paths, once none is refused 11.
 fn twice_fault(n: usize, labels: &[u8]) -> Fault
-    requires { ⌜ (n ≤ 128) × (length (now labels) ≡ 1024) × ((k : ℕ) → k < n → badLabel (now labels) k ≡ false) ⌝ }
+    requires { ⌜ (n ≤ 128) × (length (now labels) ≡ 1024)
+        × ((k : ℕ) → k < n → badLabel (now labels) k ≡ false) ⌝ }
     ensures { λ r. ⌜ r ≡ scan 12 (labelTwice (now (labels .entry))) n ⌝ }
 {
     let mut keys = [0usize; rules::PATHS];
@@ -130,7 +132,8 @@ fn plan_fault(n: usize, starts: &[u16]) -> Fault
 
 // What the writer tests of its tables, in their order: 2, 1 for n, 3, 4, 5, 11, 12, 1 for pairs, 7.
 pub fn table_fault(n: usize, labels: &[u8], widths: &[u16], guards: &[u8], starts: &[u16]) -> Fault
-    ensures { λ r. ⌜ r ≡ tableFault n (now (labels .entry)) (lend (now (widths .entry)) (now (guards .entry))) (now (starts .entry)) ⌝ }
+    ensures { λ r. ⌜ r ≡ tableFault n (now (labels .entry))
+        (lend (now (widths .entry)) (now (guards .entry))) (now (starts .entry)) ⌝ }
 {
     let sizes = label_sizes(labels, starts);
     let lent = tables::lent_fault(n, widths, guards, sizes);

@@ -1,5 +1,6 @@
-// A test program: it reads a bundle of sheets, each ended by a zero byte, and prints a line for each: number, line, n, and a checksum of each of the
-// four tables. What it has to print stands in `stdout`, and was not made by the code under test.
+// A test program: it reads a bundle of sheets, each ended by a zero byte, and prints a line for each:
+// number, line, n, and a checksum of each of the four tables. What it has to print stands in `stdout`, and
+// was not made by the code under test.
 use libc::STDIN_FILENO;
 use libc::STDOUT_FILENO;
 ghost use Prim.Native.Nat.{_≤_, _<_};

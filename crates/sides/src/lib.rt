@@ -1,5 +1,6 @@
-// An inner crate: the two sides of a network, for the calls of planning. They are found in fixed room and with no recursion.
-// The marks depend on the guards alone, which are all that these functions are lent: what they promise holds for every network of these guards.
+// An inner crate: the two sides of a network, for the calls of planning. They are found in fixed room and
+// with no recursion. The marks depend on the guards alone, which are all that these functions are lent:
+// what they promise holds for every network of these guards.
 ghost use mathlib.Core.Path.{_≡_};
 ghost use mathlib.Core.Bool.{cond, not, _&&_};
 ghost use Prim.Native.Nat.{_≤_, _<_};
@@ -33,11 +34,13 @@ fn spread(n: usize, c: usize, value: u16, guards: &[u8], table: &mut [u16])
     }
 }
 
-// The mark of each path: 1 is low, 2 is high. The next path is one in conflict with a marked path wherever there is one (key 0), else the
-// lowest number left (key 1). It gets the mark that is asked of it: the other mark than such a path has, and 1 where it begins a connected part.
+// The mark of each path: 1 is low, 2 is high. The next path is one in conflict with a marked path wherever
+// there is one (key 0), else the lowest number left (key 1). It gets the mark that is asked of it: the
+// other mark than such a path has, and 1 where it begins a connected part.
 fn mark_sides(n: usize, guards: &[u8], mark: &mut [u8])
     requires { ⌜ (n ≤ 128) × ((length (now guards) ≡ 16384) × (now mark ≡ cleared 128 0)) ⌝ }
-    ensures { λ _. ⌜ ((lent : Lent) → lent .guards ≡ now (guards .entry) → now (mark .exit) ≡ marks (netOf lent) n) ⌝ }
+    ensures { λ _. ⌜ ((lent : Lent) → lent .guards ≡ now (guards .entry) → now (mark .exit)
+        ≡ marks (netOf lent) n) ⌝ }
 {
     let mut keys = [1u16; rules::PATHS];
     let mut asked = [1u16; rules::PATHS];
@@ -68,7 +71,8 @@ fn is_alike(i: usize, j: usize, g: u8, a: u8, b: u8) -> bool
 // Whether some path past i is in conflict with it and has its mark.
 fn row_alike(n: usize, i: usize, guards: &[u8], mark: &[u8]) -> bool
     requires { ⌜ (n ≤ 128) × ((i < n) × ((length (now guards) ≡ 16384) × (length (now mark) ≡ 128))) ⌝ }
-    ensures { λ r. ⌜ ((lent : Lent) → lent .guards ≡ now (guards .entry) → r ≡ found (sameMark (netOf lent) (at (now (mark .entry))) i) n) ⌝ }
+    ensures { λ r. ⌜ ((lent : Lent) → lent .guards ≡ now (guards .entry) → r
+        ≡ found (sameMark (netOf lent) (at (now (mark .entry))) i) n) ⌝ }
 {
     let a = mark[i];
     let mut any = false;
@@ -86,7 +90,8 @@ fn row_alike(n: usize, i: usize, guards: &[u8], mark: &[u8]) -> bool
 // There are two sides exactly where no conflict joins two paths of one mark.
 fn are_sides(n: usize, guards: &[u8], mark: &[u8]) -> bool
     requires { ⌜ (n ≤ 128) × ((length (now guards) ≡ 16384) × (length (now mark) ≡ 128)) ⌝ }
-    ensures { λ r. ⌜ ((lent : Lent) → lent .guards ≡ now (guards .entry) → r ≡ not (foundPair (sameMark (netOf lent) (at (now (mark .entry)))) n)) ⌝ }
+    ensures { λ r. ⌜ ((lent : Lent) → lent .guards ≡ now (guards .entry) → r
+        ≡ not (foundPair (sameMark (netOf lent) (at (now (mark .entry)))) n)) ⌝ }
 {
     let mut i: usize = 0;
     while i < n {
@@ -101,7 +106,8 @@ fn are_sides(n: usize, guards: &[u8], mark: &[u8]) -> bool
 // Marks each path of a cleared table, and tells whether the marks are two sides.
 pub fn find_sides(n: usize, guards: &[u8], mark: &mut [u8]) -> bool
     requires { ⌜ (n ≤ 128) × ((length (now guards) ≡ 16384) × (now mark ≡ cleared 128 0)) ⌝ }
-    ensures { λ r. ⌜ ((lent : Lent) → lent .guards ≡ now (guards .entry) → (now (mark .exit) ≡ marks (netOf lent) n) × (r ≡ hasSides (netOf lent) n)) ⌝ }
+    ensures { λ r. ⌜ ((lent : Lent) → lent .guards ≡ now (guards .entry)
+        → (now (mark .exit) ≡ marks (netOf lent) n) × (r ≡ hasSides (netOf lent) n)) ⌝ }
 {
     mark_sides(n, guards, mark);
     are_sides(n, guards, mark)
@@ -116,7 +122,8 @@ fn high_key(mark: u8) -> u16
 
 fn high_keys(n: usize, mark: &[u8], keys: &mut [u16])
     requires { ⌜ (n ≤ 128) × ((length (now mark) ≡ 128) × (length (now keys) ≡ 128)) ⌝ }
-    ensures { λ _. ⌜ Updated (λ k x. cond (eqb (at (now (mark .entry)) k) 2) 1 0) (now (keys .entry)) (now (keys .exit)) n ⌝ }
+    ensures { λ _. ⌜ Updated (λ k x. cond (eqb (at (now (mark .entry)) k) 2) 1 0) (now (keys .entry))
+        (now (keys .exit)) n ⌝ }
 {
     let mut k: usize = 0;
     while k < n {
@@ -128,7 +135,8 @@ fn high_keys(n: usize, mark: &[u8], keys: &mut [u16])
 // The two-sided order: the low paths by number, then the high ones.
 pub fn order_sides(n: usize, mark: &[u8], order: &mut [u8])
     requires { ⌜ (n ≤ 128) × ((length (now mark) ≡ 128) × (n ≤ length (now order))) ⌝ }
-    ensures { λ _. ⌜ now (order .exit) ≡ twoSided n (λ k. eqb (at (now (mark .entry)) k) 2) (now (order .entry)) ⌝ }
+    ensures { λ _. ⌜ now (order .exit)
+        ≡ twoSided n (λ k. eqb (at (now (mark .entry)) k) 2) (now (order .entry)) ⌝ }
 {
     let mut keys = [0u16; rules::PATHS];
     high_keys(n, mark, &mut keys);

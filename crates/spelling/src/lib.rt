@@ -1,5 +1,5 @@
-// An inner crate, for the writers of sheets: the fields of a line and the lines that they make, put into a text, and
-// how long they are.
+// An inner crate, for the writers of sheets: the fields of a line and the lines that they make, put into a
+// text, and how long they are.
 ghost use mathlib.Core.Path.{_≡_};
 ghost use mathlib.Core.List.{_++_};
 ghost use Prim.Native.Nat.{_+_, _*_, _≤_, _<_};
@@ -88,8 +88,10 @@ pub fn put_number(text: &mut [u8], place: usize, v: usize) -> usize
 
 // Puts path k's label.
 pub fn put_label(text: &mut [u8], place: usize, labels: &[u8], k: usize) -> usize
-    requires { ⌜ (8 * k + 8 ≤ length (now labels)) × (place + length (labelOf (now labels) k) ≤ length (now text)) ⌝ }
-    ensures { λ r. ⌜ Wrote (now (text .entry)) place (labelOf (now (labels .entry)) k) r (now (text .exit)) ⌝ }
+    requires { ⌜ (8 * k + 8 ≤ length (now labels))
+        × (place + length (labelOf (now labels) k) ≤ length (now text)) ⌝ }
+    ensures { λ r. ⌜ Wrote (now (text .entry)) place (labelOf (now (labels .entry)) k) r
+        (now (text .exit)) ⌝ }
 {
     let mut p = place;
     let mut j = 0;
@@ -107,7 +109,8 @@ pub fn put_label(text: &mut [u8], place: usize, labels: &[u8], k: usize) -> usiz
 // Puts a line's last field: a space, a number and the line feed.
 pub fn put_last(text: &mut [u8], place: usize, v: usize) -> usize
     requires { ⌜ (v < 100000) × (place + length (numeral v) + 2 ≤ length (now text)) ⌝ }
-    ensures { λ r. ⌜ Wrote (now (text .entry)) place (space ++ (numeral v ++ lineFeed)) r (now (text .exit)) ⌝ }
+    ensures { λ r. ⌜ Wrote (now (text .entry)) place (space
+        ++ (numeral v ++ lineFeed)) r (now (text .exit)) ⌝ }
 {
     let p = put_word(text, place, b" ");
     let q = put_number(text, p, v);
@@ -125,8 +128,10 @@ pub fn put_count_line(text: &mut [u8], place: usize, w: &[u8], m: usize) -> usiz
 
 // Puts path k's line: its label, and its number of a table.
 pub fn put_path_line(text: &mut [u8], place: usize, labels: &[u8], table: &[u16], k: usize) -> usize
-    requires { ⌜ (8 * k + 8 ≤ length (now labels)) × (k < length (now table)) × (place + length (pathText (now labels) (now table) k) ≤ length (now text)) ⌝ }
-    ensures { λ r. ⌜ Wrote (now (text .entry)) place (pathText (now (labels .entry)) (now (table .entry)) k) r (now (text .exit)) ⌝ }
+    requires { ⌜ (8 * k + 8 ≤ length (now labels)) × (k < length (now table))
+        × (place + length (pathText (now labels) (now table) k) ≤ length (now text)) ⌝ }
+    ensures { λ r. ⌜ Wrote (now (text .entry)) place
+        (pathText (now (labels .entry)) (now (table .entry)) k) r (now (text .exit)) ⌝ }
 {
     let v = table[k] as usize;
     let p = put_label(text, place, labels, k);
@@ -157,8 +162,10 @@ pub fn put_guard_line(
     i: usize,
     j: usize,
 ) -> usize
-    requires { ⌜ (i < j) × (j < 128) × (length (now labels) ≡ 1024) × (length (now guards) ≡ 16384) × (place + length (guardText (now labels) (now guards) i j) ≤ length (now text)) ⌝ }
-    ensures { λ r. ⌜ Wrote (now (text .entry)) place (guardText (now (labels .entry)) (now (guards .entry)) i j) r (now (text .exit)) ⌝ }
+    requires { ⌜ (i < j) × (j < 128) × (length (now labels) ≡ 1024) × (length (now guards) ≡ 16384)
+        × (place + length (guardText (now labels) (now guards) i j) ≤ length (now text)) ⌝ }
+    ensures { λ r. ⌜ Wrote (now (text .entry)) place
+        (guardText (now (labels .entry)) (now (guards .entry)) i j) r (now (text .exit)) ⌝ }
 {
     let guard = guards[rules::PATHS * i + j];
     if guard == rules::NO_CONFLICT {

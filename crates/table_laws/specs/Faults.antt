@@ -1,5 +1,5 @@
--- The laws of tests and of tests in their order. For a definition: what a chain that finds no fault says of each test. For code: what a
--- function that tests has to show. Assumes nothing.
+-- The laws of tests and of tests in their order. For a definition: what a chain that finds no fault says of
+-- each test. For code: what a function that tests has to show. Assumes nothing.
 use Prim.Native.Nat.{ℕ, _≤_, _<_}
 use mathlib.Core.Path.{_≡_, refl, sym, ap, _∙_}
 use mathlib.Core.Logic.{_≢_, _⊎_, inl, inr}

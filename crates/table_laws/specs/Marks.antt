@@ -1,5 +1,5 @@
--- A table of marks: 1 for each path that stands among the first m of an order, and 0 for the others. It answers `placed` without a search.
--- Assumes nothing.
+-- A table of marks: 1 for each path that stands among the first m of an order, and 0 for the others. It
+-- answers `placed` without a search. Assumes nothing.
 use Prim.Native.Nat.{ℕ, suc, _+_, _<_}
 use mathlib.Core.Path.{_≡_, refl, sym, subst, ap, _∙_}
 use mathlib.Core.Logic.{_≢_}

@@ -1,6 +1,7 @@
-// An inner crate: the tests of lent tables, each once, for every call. Each scan goes from the lowest index, by i then j, and cells of index n
-// or more are never tested. A square is tested by rows, with no branch on a cell so that the compiler makes vector code of it; the
-// first cell at fault is looked for only in a row that has one.
+// An inner crate: the tests of lent tables, each once, for every call. Each scan goes from the lowest
+// index, by i then j, and cells of index n or more are never tested. A square is tested by rows, with no
+// branch on a cell so that the compiler makes vector code of it; the first cell at fault is looked for only
+// in a row that has one.
 use rules::Fault;
 ghost use mathlib.Core.Path.{_≡_};
 ghost use mathlib.Core.Bool.{false, not, _||_, _&&_};
@@ -86,7 +87,8 @@ fn is_outside(least: u16, most: u16, x: u16) -> bool
     most < x
 }
 
-// The first of n numbers of a table that is not 1 to `most`, refused by the number given: 3 for a width, 7 for a start.
+// The first of n numbers of a table that is not 1 to `most`, refused by the number given: 3 for a width, 7
+// for a start.
 pub fn range_fault(n: usize, table: &[u16], most: u16, number: usize) -> Fault
     requires { ⌜ (n ≤ 128) × (length (now table) ≡ 128) ⌝ }
     ensures { λ r. ⌜ r ≡ scan number (λ k. outside 1 most (at (now (table .entry)) k)) n ⌝ }
@@ -165,7 +167,8 @@ fn above(g: u8) -> u8
 // The largest of a row, by that measure.
 fn row_top(n: usize, i: usize, guards: &[u8]) -> u8
     requires { ⌜ (n ≤ 128) × ((i < n) × (length (now guards) ≡ 16384)) ⌝ }
-    ensures { λ r. ⌜ (r ≤ 33 → (j : ℕ) → j < n → (at (now (guards .entry)) (cell i j) ≡ 255 → ⊥) → at (now (guards .entry)) (cell i j) ≤ 32) ⌝ }
+    ensures { λ r. ⌜ (r ≤ 33 → (j : ℕ) → j < n → (at (now (guards .entry)) (cell i j) ≡ 255 → ⊥)
+        → at (now (guards .entry)) (cell i j) ≤ 32) ⌝ }
 {
     let mut top: u8 = 0;
     let mut j: usize = 0;
@@ -178,7 +181,8 @@ fn row_top(n: usize, i: usize, guards: &[u8]) -> u8
     top
 }
 
-// The first cell of row i that is at fault, or n; a row that is right is told by its largest cell and its diagonal.
+// The first cell of row i that is at fault, or n; a row that is right is told by its largest cell and its
+// diagonal.
 fn guard_row(n: usize, i: usize, guards: &[u8]) -> usize
     requires { ⌜ (n ≤ 128) × ((i < n) × (length (now guards) ≡ 16384)) ⌝ }
     ensures { λ r. ⌜ r ≡ first (badGuard (now (guards .entry)) i) n ⌝ }
@@ -255,7 +259,8 @@ fn row_fault(n: usize, i: usize, guards: &[u8], mirror: bool) -> usize
     guard_row(n, i, guards)
 }
 
-// 4 or 5 over the whole square, refused by the number given. The place of 5 is that of the cell with i<j, never its mirror's.
+// 4 or 5 over the whole square, refused by the number given. The place of 5 is that of the cell with i<j,
+// never its mirror's.
 fn square_fault(n: usize, guards: &[u8], mirror: bool, number: usize) -> Fault
     requires { ⌜ (n ≤ 128) × (length (now guards) ≡ 16384) ⌝ }
     ensures { λ r. ⌜ r ≡ square number (badCell mirror (now (guards .entry))) n ⌝ }
@@ -312,7 +317,8 @@ pub fn network_fault(n: usize, widths: &[u16], guards: &[u8]) -> Fault
     square_fault(n, guards, true, rules::REFUSED_MIRROR)
 }
 
-// 2, 1, 3, 4, 5: the tests that every call begins with. `sizes` is 2 of the tables that it is lent beside the network.
+// 2, 1, 3, 4, 5: the tests that every call begins with. `sizes` is 2 of the tables that it is lent beside
+// the network.
 pub fn lent_fault(n: usize, widths: &[u16], guards: &[u8], sizes: Fault) -> Fault
     ensures { λ r. ⌜ r ≡ lentFault n (lend (now (widths .entry)) (now (guards .entry))) sizes ⌝ }
 {
@@ -328,7 +334,8 @@ pub fn lent_fault(n: usize, widths: &[u16], guards: &[u8], sizes: Fault) -> Faul
 
 // The tests of packing into a table of so many starts: 2, 1, 3, 4, 5, 6.
 pub fn pack_fault(n: usize, widths: &[u16], guards: &[u8], order: &[u8], starts: usize) -> Fault
-    ensures { λ r. ⌜ ((s : List ℕ) → length s ≡ starts → r ≡ packFault n (lend (now (widths .entry)) (now (guards .entry))) (now (order .entry)) s) ⌝ }
+    ensures { λ r. ⌜ ((s : List ℕ) → length s ≡ starts → r
+        ≡ packFault n (lend (now (widths .entry)) (now (guards .entry))) (now (order .entry)) s) ⌝ }
 {
     let sizes = plan_sizes(order.len(), starts);
     let f = lent_fault(n, widths, guards, sizes);

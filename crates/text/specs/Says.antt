@@ -1,5 +1,5 @@
--- What the functions of this crate answer, against the definitions of the rules. A place in a text stands for the text from there on.
--- Assumes nothing.
+-- What the functions of this crate answer, against the definitions of the rules. A place in a text stands
+-- for the text from there on. Assumes nothing.
 use Prim.Native.Nat.{ℕ, _+_, _-_, _≤_, _<_}
 use mathlib.Core.Path.{_≡_}
 use mathlib.Core.Bool.{Bool, true, false}

@@ -56,7 +56,8 @@ pub fn in_class(b: u8, label: bool) -> bool
 // Where the bytes of a class that start at a place end.
 fn run_end(text: &[u8], place: usize, label: bool) -> usize
     requires { ⌜ place ≤ length (now text) ⌝ }
-    ensures { λ r. ⌜ (r ≡ place + length (run (classOf label) (drop place (now (text .entry))))) × (r ≤ length (now (text .entry))) ⌝ }
+    ensures { λ r. ⌜ (r ≡ place + length (run (classOf label) (drop place (now (text .entry)))))
+        × (r ≤ length (now (text .entry))) ⌝ }
 {
     let mut i = place;
     while i < text.len() {
@@ -77,7 +78,8 @@ fn digit(b: u8) -> usize
 
 // The number that the digits between two places spell.
 fn value(text: &[u8], place: usize, end: usize) -> usize
-    requires { ⌜ (end ≡ place + length (run isDigit (drop place (now text)))) × (end ≤ length (now text)) × (end ≤ place + 5) ⌝ }
+    requires { ⌜ (end ≡ place + length (run isDigit (drop place (now text)))) × (end ≤ length (now text))
+        × (end ≤ place + 5) ⌝ }
     ensures { λ r. ⌜ (r ≡ valueFrom 0 (run isDigit (drop place (now (text .entry))))) × (r < 100000) ⌝ }
 {
     let mut v: usize = 0;

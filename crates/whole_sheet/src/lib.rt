@@ -17,7 +17,8 @@ pub enum Whole {
     Stop(usize, usize),
 }
 
-// The starts, where there is a plan: their count, 1 where it is not n, and their lines. What stands after them is 11.
+// The starts, where there is a plan: their count, 1 where it is not n, and their lines. What stands after
+// them is 11.
 fn starts_part(
     text: &[u8],
     place: usize,
@@ -26,9 +27,12 @@ fn starts_part(
     keys: &[usize],
     table: &mut [u16],
 ) -> Part
-    requires { ⌜ (place ≤ length (now text)) × (n ≤ 128) × (n ≤ length (now keys)) × (n ≤ length (now table)) × (line ≤ 9000) ⌝ }
-    ensures { λ r. ⌜ PartWithin (now (text .entry)) r × ((labels : List ℕ) → Keyed labels (now (keys .entry)) n
-        → SectionIs (now (text .entry)) (now (table .exit)) (startsPart n line labels (now (table .entry)) (drop place (now (text .entry)))) r) ⌝ }
+    requires { ⌜ (place ≤ length (now text)) × (n ≤ 128) × (n ≤ length (now keys))
+        × (n ≤ length (now table)) × (line ≤ 9000) ⌝ }
+    ensures { λ r. ⌜ PartWithin (now (text .entry)) r
+        × ((labels : List ℕ) → Keyed labels (now (keys .entry)) n
+        → SectionIs (now (text .entry)) (now (table .exit))
+        (startsPart n line labels (now (table .entry)) (drop place (now (text .entry)))) r) ⌝ }
 {
     if text.len() <= place {
         return Part::Over(place);
@@ -59,9 +63,13 @@ fn guards_part(
     square: &mut [u8],
     table: &mut [u16],
 ) -> Part
-    requires { ⌜ (place ≤ length (now text)) × (n ≤ 128) × (n ≤ length (now keys)) × (length (now square) ≡ 16384) × (n ≤ length (now table)) ⌝ }
-    ensures { λ r. ⌜ PartWithin (now (text .entry)) r × ((labels : List ℕ) → Keyed labels (now (keys .entry)) n
-        → SectionIs (now (text .entry)) (now (square .exit), now (table .exit)) (guardsPart n labels (now (square .entry)) (now (table .entry)) (drop place (now (text .entry)))) r) ⌝ }
+    requires { ⌜ (place ≤ length (now text)) × (n ≤ 128) × (n ≤ length (now keys))
+        × (length (now square) ≡ 16384) × (n ≤ length (now table)) ⌝ }
+    ensures { λ r. ⌜ PartWithin (now (text .entry)) r
+        × ((labels : List ℕ) → Keyed labels (now (keys .entry)) n
+        → SectionIs (now (text .entry)) (now (square .exit), now (table .exit))
+        (guardsPart n labels (now (square .entry)) (now (table .entry)) (drop place (now (text .entry))))
+        r) ⌝ }
 {
     let Amount::Is(m, e) = text::count_line(text, place, &text::GUARDS_WORD) else {
         return Part::Halt(rules::REFUSED_FORM, n + 2);
@@ -83,8 +91,10 @@ pub fn sheet_parts(
     square: &mut [u8],
     table: &mut [u16],
 ) -> Whole
-    requires { ⌜ (length (now labels) ≡ 1024) × (length (now widths) ≡ 128) × (length (now square) ≡ 16384) × (length (now table) ≡ 128) ⌝ }
-    ensures { λ r. ⌜ WholeIs (now (labels .exit)) (now (widths .exit)) (now (square .exit)) (now (table .exit))
+    requires { ⌜ (length (now labels) ≡ 1024) × (length (now widths) ≡ 128) × (length (now square) ≡ 16384)
+        × (length (now table) ≡ 128) ⌝ }
+    ensures { λ r. ⌜ WholeIs (now (labels .exit)) (now (widths .exit)) (now (square .exit))
+        (now (table .exit))
         (sheetFrom (now (labels .entry)) (lend (now (widths .entry)) (now (square .entry))) (now (table .entry)) (now (text .entry))) r ⌝ }
 {
     let Amount::Is(n, e) = text::count_line(text, 0, &text::PATHS_WORD) else {

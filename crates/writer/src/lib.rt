@@ -1,5 +1,5 @@
-// An inner crate, for `sheet`: a sheet written from tables that were tested, and its length, which is known before the
-// first byte is written.
+// An inner crate, for `sheet`: a sheet written from tables that were tested, and its length, which is known
+// before the first byte is written.
 ghost use mathlib.Core.Path.{_≡_};
 ghost use Prim.Native.Nat.{_+_, _*_, _≤_, _<_};
 ghost use lib.ListN.{length};
@@ -12,7 +12,8 @@ ghost use Rattle.writer.specs.Written.{guardLines};
 // The length of n lines, of a label and a number of a table each.
 fn paths_length(n: usize, labels: &[u8], table: &[u16]) -> usize
     requires { ⌜ (n ≤ 128) × (length (now labels) ≡ 1024) × (length (now table) ≡ 128) ⌝ }
-    ensures { λ r. ⌜ (r ≡ length (joinFrom n 0 (pathText (now (labels .entry)) (now (table .entry))))) × (r ≤ 15 * n) ⌝ }
+    ensures { λ r. ⌜ (r ≡ length (joinFrom n 0 (pathText (now (labels .entry)) (now (table .entry)))))
+        × (r ≤ 15 * n) ⌝ }
 {
     let mut total = 0;
     let mut k = 0;
@@ -26,7 +27,8 @@ fn paths_length(n: usize, labels: &[u8], table: &[u16]) -> usize
 // The length of the lines of path i and the later paths.
 fn row_length(n: usize, i: usize, labels: &[u8], guards: &[u8]) -> usize
     requires { ⌜ (i < n) × (n ≤ 128) × (length (now labels) ≡ 1024) × (length (now guards) ≡ 16384) ⌝ }
-    ensures { λ r. ⌜ (r ≡ length (joinFrom n 0 (guardText (now (labels .entry)) (now (guards .entry)) i))) × (r ≤ 24 * n) ⌝ }
+    ensures { λ r. ⌜ (r ≡ length (joinFrom n 0 (guardText (now (labels .entry)) (now (guards .entry)) i)))
+        × (r ≤ 24 * n) ⌝ }
 {
     let mut total = 0;
     let mut j = i + 1;
@@ -40,7 +42,8 @@ fn row_length(n: usize, i: usize, labels: &[u8], guards: &[u8]) -> usize
 // The length of all guard lines.
 fn guards_length(n: usize, labels: &[u8], guards: &[u8]) -> usize
     requires { ⌜ (n ≤ 128) × (length (now labels) ≡ 1024) × (length (now guards) ≡ 16384) ⌝ }
-    ensures { λ r. ⌜ (r ≡ length (guardLines n (now (labels .entry)) (now (guards .entry)))) × (r ≤ 3072 * n) ⌝ }
+    ensures { λ r. ⌜ (r ≡ length (guardLines n (now (labels .entry)) (now (guards .entry))))
+        × (r ≤ 3072 * n) ⌝ }
 {
     let mut total = 0;
     let mut i = 0;
@@ -65,7 +68,9 @@ fn starts_length(n: usize, labels: &[u8], starts: &[u16]) -> usize
 // The length of the whole sheet.
 pub fn sheet_length(n: usize, labels: &[u8], widths: &[u16], guards: &[u8], starts: &[u16]) -> usize
     requires { ⌜ (n ≤ 128) × Sized (now labels) (now widths) (now guards) (now starts) ⌝ }
-    ensures { λ r. ⌜ r ≡ length (sheetText n (now (labels .entry)) (lend (now (widths .entry)) (now (guards .entry))) (now (starts .entry))) ⌝ }
+    ensures { λ r. ⌜ r ≡ length
+        (sheetText n (now (labels .entry)) (lend (now (widths .entry)) (now (guards .entry)))
+        (now (starts .entry))) ⌝ }
 {
     let m = sheet_tables::pair_count(n, guards);
     let paths = spelling::count_line_length(&text::PATHS_WORD, n) + paths_length(n, labels, widths);
@@ -76,8 +81,10 @@ pub fn sheet_length(n: usize, labels: &[u8], widths: &[u16], guards: &[u8], star
 
 // Puts n lines, of a label and a number of a table each.
 fn put_paths(text: &mut [u8], place: usize, n: usize, labels: &[u8], table: &[u16]) -> usize
-    requires { ⌜ (n ≤ 128) × (length (now labels) ≡ 1024) × (length (now table) ≡ 128) × (place + length (joinFrom n 0 (pathText (now labels) (now table))) ≤ length (now text)) ⌝ }
-    ensures { λ r. ⌜ Wrote (now (text .entry)) place (joinFrom n 0 (pathText (now (labels .entry)) (now (table .entry)))) r (now (text .exit)) ⌝ }
+    requires { ⌜ (n ≤ 128) × (length (now labels) ≡ 1024) × (length (now table) ≡ 128)
+        × (place + length (joinFrom n 0 (pathText (now labels) (now table))) ≤ length (now text)) ⌝ }
+    ensures { λ r. ⌜ Wrote (now (text .entry)) place
+        (joinFrom n 0 (pathText (now (labels .entry)) (now (table .entry)))) r (now (text .exit)) ⌝ }
 {
     let mut p = place;
     let mut k = 0;
@@ -97,8 +104,10 @@ fn put_row_lines(
     labels: &[u8],
     guards: &[u8],
 ) -> usize
-    requires { ⌜ (i < n) × (n ≤ 128) × (length (now labels) ≡ 1024) × (length (now guards) ≡ 16384) × (place + length (joinFrom n 0 (guardText (now labels) (now guards) i)) ≤ length (now text)) ⌝ }
-    ensures { λ r. ⌜ Wrote (now (text .entry)) place (joinFrom n 0 (guardText (now (labels .entry)) (now (guards .entry)) i)) r (now (text .exit)) ⌝ }
+    requires { ⌜ (i < n) × (n ≤ 128) × (length (now labels) ≡ 1024) × (length (now guards) ≡ 16384)
+        × (place + length (joinFrom n 0 (guardText (now labels) (now guards) i)) ≤ length (now text)) ⌝ }
+    ensures { λ r. ⌜ Wrote (now (text .entry)) place
+        (joinFrom n 0 (guardText (now (labels .entry)) (now (guards .entry)) i)) r (now (text .exit)) ⌝ }
 {
     let mut p = place;
     let mut j = i + 1;
@@ -111,8 +120,10 @@ fn put_row_lines(
 
 // Puts all guard lines.
 fn put_guards(text: &mut [u8], place: usize, n: usize, labels: &[u8], guards: &[u8]) -> usize
-    requires { ⌜ (n ≤ 128) × (length (now labels) ≡ 1024) × (length (now guards) ≡ 16384) × (place + length (guardLines n (now labels) (now guards)) ≤ length (now text)) ⌝ }
-    ensures { λ r. ⌜ Wrote (now (text .entry)) place (guardLines n (now (labels .entry)) (now (guards .entry))) r (now (text .exit)) ⌝ }
+    requires { ⌜ (n ≤ 128) × (length (now labels) ≡ 1024) × (length (now guards) ≡ 16384)
+        × (place + length (guardLines n (now labels) (now guards)) ≤ length (now text)) ⌝ }
+    ensures { λ r. ⌜ Wrote (now (text .entry)) place
+        (guardLines n (now (labels .entry)) (now (guards .entry))) r (now (text .exit)) ⌝ }
 {
     let mut p = place;
     let mut i = 0;
@@ -125,8 +136,10 @@ fn put_guards(text: &mut [u8], place: usize, n: usize, labels: &[u8], guards: &[
 
 // Puts the starts section, where there is a plan.
 fn put_starts(text: &mut [u8], place: usize, n: usize, labels: &[u8], starts: &[u16]) -> usize
-    requires { ⌜ (n ≤ 128) × (length (now labels) ≡ 1024) × (length (now starts) ≡ 128) × (place + length (startsText n (now labels) (now starts)) ≤ length (now text)) ⌝ }
-    ensures { λ r. ⌜ Wrote (now (text .entry)) place (startsText n (now (labels .entry)) (now (starts .entry))) r (now (text .exit)) ⌝ }
+    requires { ⌜ (n ≤ 128) × (length (now labels) ≡ 1024) × (length (now starts) ≡ 128)
+        × (place + length (startsText n (now labels) (now starts)) ≤ length (now text)) ⌝ }
+    ensures { λ r. ⌜ Wrote (now (text .entry)) place
+        (startsText n (now (labels .entry)) (now (starts .entry))) r (now (text .exit)) ⌝ }
 {
     if sheet_tables::has_plan(n, starts) {
         let p = spelling::put_count_line(text, place, &text::STARTS_WORD, n);
@@ -144,8 +157,12 @@ pub fn put_sheet(
     guards: &[u8],
     starts: &[u16],
 ) -> usize
-    requires { ⌜ (n ≤ 128) × Sized (now labels) (now widths) (now guards) (now starts) × (length (sheetText n (now labels) (lend (now widths) (now guards)) (now starts)) ≤ length (now text)) ⌝ }
-    ensures { λ r. ⌜ Wrote (now (text .entry)) 0 (sheetText n (now (labels .entry)) (lend (now (widths .entry)) (now (guards .entry))) (now (starts .entry))) r (now (text .exit)) ⌝ }
+    requires { ⌜ (n ≤ 128) × Sized (now labels) (now widths) (now guards) (now starts)
+        × (length (sheetText n (now labels) (lend (now widths) (now guards)) (now starts)) ≤ length
+        (now text)) ⌝ }
+    ensures { λ r. ⌜ Wrote (now (text .entry)) 0
+        (sheetText n (now (labels .entry)) (lend (now (widths .entry)) (now (guards .entry)))
+        (now (starts .entry))) r (now (text .exit)) ⌝ }
 {
     let m = sheet_tables::pair_count(n, guards);
     let p = spelling::put_count_line(text, 0, &text::PATHS_WORD, n);
