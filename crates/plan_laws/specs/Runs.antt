@@ -28,6 +28,11 @@ module _ (n : ℕ) (lent : Lent) (order starts : List ℕ) (seed : ℕ) where
   runAfter i = improved (netOf lent) n (lowest (netOf lent)) starts order seed i
 
   module _ (p : Packable n lent order starts) where
+    -- it starts from the seed, the order given and its highest slot, with none kept
+    pub run-start : runAfter 0 ≡ record { state = seed; order = order; highest = highestOf order; kept = 0 }
+    unfolding improved rounds
+    run-start = refl
+
     pub run-sound : (k : ℕ) → Sound highestOf n (p .network .some) (runAfter k) × (runAfter k .highest ≤ highestOf order)
     unfolding improved
     run-sound k = rounds-sound highestOf n (p .network .some) k _ (record { whole = p .whole; room = omega (arith, p .orderSize, p .network .few); right = refl })
