@@ -34,7 +34,7 @@ use Rattle.demands.specs.Kept.{keptCells, keptLabels}
 use Rattle.demands.specs.GuardTrip.{keptGuards}
 use Rattle.demands.specs.SheetTrip.{written-sheet, written-read}
 use Rattle.demands.specs.Longest.{room-enough}
-use Rattle.demands.specs.OnReading.{SheetTables, SheetWrong, sizes-right, reading-halt}
+use Rattle.demands.specs.OnReading.{SheetTables, SheetWrong, sheet-named, sizes-right, reading-halt}
 use Rattle.demands.specs.ReadCells.{PastCleared, reading-past, reading-writable, same-cells, same-labels, same-guards}
 
 -- packing into a table leaves its cells of index n or more
@@ -104,12 +104,12 @@ pub printed-refused : (input : List ℕ) → inputRead input .answer .number ≢
 unfolding printed
 printed-refused input z = rw (ne-eqb (inputRead input .answer .number) 0 z)
 
-pub printed-halt : (input : List ℕ) (x y : ℕ) → x ≢ 0 → SheetWrong input x y → printed input ≡ refusalText x y
-printed-halt input x y z h =
+pub printed-halt : (input : List ℕ) (x y : ℕ) → SheetWrong input x y → printed input ≡ refusalText x y
+printed-halt input x y h =
     let e = reading-halt input (cleared 1024 0) (lend (cleared 128 0) (cleared 16384 0)) (cleared 128 0) own-tables x y h in
     let number = ap (λ (r : Left SheetRead (List ℕ × Lent × List ℕ)). r .answer .number) e in
     let place = ap (λ (r : Left SheetRead (List ℕ × Lent × List ℕ)). r .answer .place) e in
-    printed-refused input (λ q. z (sym number ∙ q)) ∙ (λ i. refusalText (number i) (place i))
+    printed-refused input (λ q. sheet-named input x y h .0 (sym number ∙ q)) ∙ (λ i. refusalText (number i) (place i))
 
 -- read: the sheet with its planned starts
 module _ (input : List ℕ) (read : inputRead input .answer .number ≡ 0) where

@@ -294,7 +294,7 @@ start-named labels k starts l y x (other w v r f h) e = let q : 13 ≡ x = cc in
 start-named labels k starts l y x (start w v r f h c) e = let q : 7 ≡ x = cc in (λ z. omega arith, λ z. omega arith)
 start-named labels k starts l y x (fine w v r f h a b) e = let z : _≡_ {A = ℕ} 0 1 = cc in absurd (omega arith)
 
-sheet-named : (l : List ℕ) (x y : ℕ) → SheetWrong l x y → Named x
+pub sheet-named : (l : List ℕ) (x y : ℕ) → SheetWrong l x y → Named x
 sheet-named l x y (pathsForm h) = (λ z. omega arith, λ z. omega arith)
 sheet-named l x y (pathsCount n r c h) = (λ z. omega arith, λ z. omega arith)
 sheet-named l x y (pathLineWrong n l₁ c a b k t l₂ u h f g) = path-named k (t .0) (t .1) l₂ _ u (path-says k (t .0) (t .1) l₂) g

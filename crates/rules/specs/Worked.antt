@@ -68,7 +68,7 @@ worked :
     ∷ (cellsOf (one "01234567 64") ++ cellsOf (pair "guards 1\nB A 32\nstarts 2\nA 7\nB 16384\n"))
     ∷ (writtenRow (written 0 65 7 16384) ++ writtenRow (written 0 65 0 0))
     ∷ (writtenRow (written 0 65 0 7) ++ writtenRow (written 8 0 1 1) ++ writtenRow (written 2 65 1 1) ++ writtenRow (written 8 65 1 1))
-    ∷ printed (bytes "paths 3\nA 1\n0A 2\n-0 3\nguards 3\n-0 0A 2\nA -0 0\n0A A 1\nstarts 3\nA 1\n0A 1\n-0 1\n")
+    ∷ printed (bytes "paths 3\nA 1\n0A-----Z 2\n-0 3\nguards 3\n-0 0A-----Z 2\nA -0 0\n0A-----Z A 1\nstarts 3\nA 1\n0A-----Z 1\n-0 1\n")
     ∷ printed (bytes "paths 2\nA 1\nA 1\n")
     ∷ printed odd
     ∷ [])
@@ -83,7 +83,7 @@ worked :
     ++ bytes "A" ++ cleared 7 0 ++ bytes "B" ++ cleared 8 0 ++ (1 ∷ 64 ∷ 0 ∷ 255 ∷ 32 ∷ 255 ∷ 32 ∷ 255 ∷ 255 ∷ 7 ∷ 16384 ∷ 0 ∷ []))
     ∷ (0 ∷ 0 ∷ 54 ∷ pair "guards 1\nA B 32\nstarts 2\nA 7\nB 16384\n" ++ (7 ∷ 0 ∷ 0 ∷ 33 ∷ pair "guards 1\nA B 32\n") ++ (7 ∷ []))
     ∷ (7 ∷ 0 ∷ 0 ∷ 7 ∷ 11 ∷ 1 ∷ 0 ∷ 7 ∷ 11 ∷ 0 ∷ 0 ∷ 7 ∷ 12 ∷ 1 ∷ 0 ∷ 7 ∷ [])
-    ∷ bytes "paths 3\nA 1\n0A 2\n-0 3\nguards 3\nA 0A 1\nA -0 0\n0A -0 2\nstarts 3\nA 4\n0A 6\n-0 1\n"
+    ∷ bytes "paths 3\nA 1\n0A-----Z 2\n-0 3\nguards 3\nA 0A-----Z 1\nA -0 0\n0A-----Z -0 2\nstarts 3\nA 4\n0A-----Z 6\n-0 1\n"
     ∷ bytes "refused 12 line 3\n"
     ∷ (odd ++ bytes "starts 9\nA 123\nB 1\nC 1\nD 92\nE 96\nF 209\nG 139\nH 104\nI 53\n")
     ∷ []
