@@ -3,129 +3,11 @@
 // of each table that the call may write. What it has to print stands in `stdout`, and was not made by the
 // code under test. The notation is explained at the head of `stdin`.
 use cases::fields;
-use cases::fields::has;
 use cases::fields::lent;
 use cases::fields::number;
 use cases::fields::numbers;
 use cases::show;
 use libc::STDIN_FILENO;
-
-fn judge(n: usize, widths: &[u16], guards: &[u8], starts: &[u16]) {
-    let r = packing::judge(n, widths, guards, starts);
-    show::answer(r.number, r.place);
-}
-
-fn pack(n: usize, widths: &[u16], guards: &[u8], order: &[u8], starts: &mut [u16]) {
-    let r = packing::pack(n, widths, guards, order, starts);
-    show::answer(r.number, r.place);
-    show::value(b" highest", r.highest);
-    show::numbers(b" starts", starts);
-}
-
-fn press(n: usize, widths: &[u16], guards: &[u8], starts: &mut [u16]) {
-    let r = packing::press(n, widths, guards, starts);
-    show::answer(r.number, r.place);
-    show::value(b" highest", r.highest);
-    show::numbers(b" starts", starts);
-}
-
-fn better<'a>(n: usize, widths: &[u16], guards: &[u8], order: &'a [u8], other: &'a [u8]) {
-    let part = packing::better(n, widths, guards, order, other);
-    show::value(b" entries", part.len());
-    show::bytes(b"", part);
-}
-
-fn two_sides(n: usize, widths: &[u16], guards: &[u8], order: &mut [u8]) {
-    let r = planning::two_sides(n, widths, guards, order);
-    show::answer(r.number, r.place);
-    show::value(b" low", r.low);
-    show::bytes(b" order", order);
-}
-
-fn improve(
-    line: &[u8],
-    n: usize,
-    widths: &[u16],
-    guards: &[u8],
-    order: &mut [u8],
-    starts: &mut [u16],
-) {
-    let seed = number(line, b" seed", b'=', 0) as u32;
-    let rounds = number(line, b" rounds", b'=', 0);
-    let r = planning::improve(n, widths, guards, order, starts, seed, rounds);
-    show::answer(r.number, r.place);
-    show::value(b" highest", r.highest);
-    show::value(b" kept", r.kept);
-    show::bytes(b" order", order);
-    show::numbers(b" starts", starts);
-}
-
-fn plan(
-    line: &[u8],
-    n: usize,
-    widths: &[u16],
-    guards: &[u8],
-    order: &mut [u8],
-    starts: &mut [u16],
-) {
-    let seed = number(line, b" seed", b'=', 0) as u32;
-    let rounds = number(line, b" rounds", b'=', 0);
-    let r = planning::plan(n, widths, guards, order, starts, seed, rounds);
-    show::answer(r.number, r.place);
-    show::value(b" highest", r.highest);
-    show::value(b" kept", r.kept);
-    show::bytes(b" order", order);
-    show::numbers(b" starts", starts);
-}
-
-fn floor(n: usize, widths: &[u16], guards: &[u8], list: &[u8]) {
-    let r = planning::floor(n, widths, guards, list);
-    show::answer(r.number, r.place);
-    show::value(b" floor", r.floor);
-}
-
-// The call that the line names, on its tables.
-fn call(
-    line: &[u8],
-    n: usize,
-    widths: &[u16],
-    guards: &[u8],
-    order: &mut [u8],
-    other: &[u8],
-    starts: &mut [u16],
-) {
-    if has(line, b" judge") {
-        judge(n, widths, guards, starts);
-        return;
-    }
-    if has(line, b" pack") {
-        pack(n, widths, guards, order, starts);
-        return;
-    }
-    if has(line, b" press") {
-        press(n, widths, guards, starts);
-        return;
-    }
-    if has(line, b" better") {
-        better(n, widths, guards, order, other);
-        return;
-    }
-    if has(line, b" two_sides") {
-        two_sides(n, widths, guards, order);
-        return;
-    }
-    if has(line, b" improve") {
-        improve(line, n, widths, guards, order, starts);
-        return;
-    }
-    if has(line, b" plan") {
-        plan(line, n, widths, guards, order, starts);
-        return;
-    }
-    if has(line, b" floor") {
-        floor(n, widths, guards, other);
-    }
-}
 
 // One case.
 fn case(line: &[u8]) {
@@ -141,7 +23,7 @@ fn case(line: &[u8]) {
     let o = lent(line, b" order", rules::PATHS, 129);
     let e = lent(line, b" other", rules::PATHS, 129);
     let g = lent(line, b" guards", rules::CELLS, 16385);
-    call(
+    case_calls::call(
         line,
         n,
         &widths[..w],

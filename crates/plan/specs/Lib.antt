@@ -1,1 +1,1 @@
-pub mod Note
+pub mod Made

@@ -4,7 +4,6 @@
 //
 // From the bytes read to the bytes printed all is proved (`answer`). `main` is calls alone: that it lends
 // `answer` what standard input held, and writes what `answer` made, is seen by examples/check.
-mod note;
 
 use libc::STDERR_FILENO;
 use libc::STDIN_FILENO;
@@ -15,7 +14,7 @@ ghost use Prim.Native.Nat.{_≤_};
 ghost use lib.ListN.{length, take};
 ghost use Rattle.rules.specs.Tables.{lend};
 ghost use Rattle.rules.specs.Program.{plannedText, printed};
-ghost use Rattle.plan.specs.Note.{noteOf, noted, Made};
+ghost use Rattle.plan.specs.Made.{noteOf, noted, Made};
 
 // How many bytes are for standard output, and how many for the line on standard error: none where the sheet
 // is refused.
@@ -47,7 +46,7 @@ fn planned(
     let mut order = [0u8; rules::PATHS];
     let plan = planning::plan(n, widths, guards, &mut order, starts, 1, 1000);
     let written = sheet::write(n, labels, widths, guards, starts, out);
-    let noted = note::note(n, widths, guards, plan.highest, plan.kept, line);
+    let noted = notes::note(n, widths, guards, plan.highest, plan.kept, line);
     Lengths {
         out: written.length,
         line: noted,

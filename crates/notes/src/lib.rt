@@ -1,4 +1,4 @@
-// The line that `--verbose` adds on standard error.
+// An inner crate of the plan program: the line that `--verbose` adds on standard error.
 ghost use mathlib.Core.Path.{_≡_};
 ghost use Prim.Native.Nat.{_+_, _≤_, min};
 ghost use lib.ListN.{length};
@@ -7,7 +7,7 @@ ghost use Rattle.rules.specs.Tables.{cleared, lend};
 ghost use Rattle.rules.specs.Writing.{pairs};
 ghost use Rattle.rules.specs.Calls.{siding};
 ghost use Rattle.spelling.specs.Says.{Wrote};
-ghost use Rattle.plan.specs.Note.{part, noteText};
+ghost use Rattle.notes.specs.Note.{part, noteText};
 
 fn least(v: usize, most: usize) -> usize
     ensures { λ r. ⌜ (r ≡ min v most) × (r ≤ most) ⌝ }

@@ -1,10 +1,10 @@
 use denote.Ref.{now}
 use Rattle.rules.specs.Tables.{lend}
-use Rattle.plan.proofs.Prints.{blank-order}
-use Rattle.plan.proofs.Notes.{note-is}
+use Rattle.notes.proofs.Notes.{blank-order}
+use Rattle.notes.proofs.Notes.{note-is}
 use borrow.Author.Needs.{needs}
-use Rattle.plan.proofs.note.note.Statement.{statement}
-use Rattle.plan.proofs.note.note.Tie as tie
+use Rattle.notes.proofs.note.Statement.{statement}
+use Rattle.notes.proofs.note.Tie as tie
 
 slice-aggregate-two-sides : tie.Need-slice-aggregate-two-sides
 slice-aggregate-two-sides c = search needs

@@ -1,7 +1,7 @@
 use mathlib.Core.Path.{refl}
 use borrow.Author.Needs.{needs}
-use Rattle.figures.proofs.call.Statement.{statement}
-use Rattle.figures.proofs.call.Tie as tie
+use Rattle.case_calls.proofs.call.Statement.{statement}
+use Rattle.case_calls.proofs.call.Tie as tie
 
 slice-aggregate-has : tie.Need-slice-aggregate-has
 slice-aggregate-has c = refl

@@ -1,10 +1,10 @@
 use denote.Ref.{now}
-use Rattle.plan.proofs.Notes.{part-wrote}
+use Rattle.notes.proofs.Notes.{part-wrote}
 use native.Mathlib.Omega.{arith}
 use Rattle.sheet_laws.specs.Writes.{digits-few}
 use borrow.Author.Needs.{needs}
-use Rattle.plan.proofs.note.put_part.Statement.{statement}
-use Rattle.plan.proofs.note.put_part.Tie as tie
+use Rattle.notes.proofs.put_part.Statement.{statement}
+use Rattle.notes.proofs.put_part.Tie as tie
 
 put-word-requires : tie.Need-put-word-requires
 put-word-requires c κs = search needs

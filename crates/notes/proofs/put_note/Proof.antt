@@ -1,9 +1,9 @@
 use native.Mathlib.Omega.{arith}
 use denote.Ref.{now}
-use Rattle.plan.proofs.Notes.{note-wrote, ends-sided, ends-kept}
+use Rattle.notes.proofs.Notes.{note-wrote, ends-sided, ends-kept}
 use borrow.Author.Needs.{needs}
-use Rattle.plan.proofs.note.put_note.Statement.{statement}
-use Rattle.plan.proofs.note.put_note.Tie as tie
+use Rattle.notes.proofs.put_note.Statement.{statement}
+use Rattle.notes.proofs.put_note.Tie as tie
 
 slice-aggregate-put-part : tie.Need-slice-aggregate-put-part
 slice-aggregate-put-part c = search needs
