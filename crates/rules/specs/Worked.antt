@@ -53,7 +53,7 @@ written c v a b =
 writtenRow : Left SheetWritten (List ℕ) → List ℕ
 writtenRow r = r .answer .number ∷ r .answer .place ∷ r .answer .length ∷ take (r .answer .length + 1) (r .tables)
 
--- nine paths that have no two sides
+-- nine paths that have no two sides: seeds 0 and 2 leave other plans, and so do fewer than 998 rounds, in which the last swap is kept
 odd : List ℕ
 odd = bytes "paths 9\nA 51\nB 49\nC 30\nD 2\nE 27\nF 2\nG 59\nH 13\nI 31\nguards 29\nA C 11\nA D 29\nA F 4\nA I 31\nB D 2\nB E 4\nB F 12\nB G 31\nB H 22\nC D 20\nC E 16\nC F 24\nC G 32\nC H 0\nC I 22\nD E 2\nD F 11\nD G 2\nD H 10\nD I 8\nE F 20\nE G 16\nE I 11\nF G 11\nF H 32\nF I 20\nG H 10\nG I 21\nH I 5\n"
 
