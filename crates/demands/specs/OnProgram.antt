@@ -28,6 +28,7 @@ use Rattle.plan_laws.specs.Sided.{sided-length, sided-order}
 use Rattle.plan_laws.specs.Runs.{runAfter, run-packable}
 use Rattle.plan_laws.specs.Answers.{Packable, Plannable, plannable-planning}
 use Rattle.sheet_laws.specs.Writes.{count-length}
+use Rattle.demands.specs.OnLeaving.{planning-past}
 use Rattle.demands.specs.OnPacking.{packedStarts, plan-valid, plan-starts}
 use Rattle.demands.specs.Writable.{Writable}
 use Rattle.demands.specs.Kept.{keptCells, keptLabels}
@@ -36,13 +37,6 @@ use Rattle.demands.specs.SheetTrip.{written-sheet, written-read}
 use Rattle.demands.specs.Longest.{room-enough}
 use Rattle.demands.specs.OnReading.{SheetTables, SheetWrong, sheet-named, sizes-right, reading-halt}
 use Rattle.demands.specs.ReadCells.{PastCleared, reading-past, reading-writable, same-cells, same-labels, same-guards}
-
--- packing into a table leaves its cells of index n or more
-packed-past : (rule : Rule) (o : ℕ → ℕ) (t : List ℕ) (n m k : ℕ) → ((i : ℕ) → i < m → o i < n) → n ≤ k → at (packed rule o t m) k ≡ at t k
-unfolding packed
-packed-past rule o t n zero k h l = refl
-packed-past rule o t n (suc m) k h l =
-    at-other (packed rule o t m) (o m) (rule (at (packed rule o t m)) o m (o m)) k (λ e. omega (arith, h m (omega arith))) ∙ packed-past rule o t n m k (λ i g. h i (omega arith)) l
 
 -- what planning leaves is the packing of some order, into the starts as they were
 module _ (n : ℕ) (lent : Lent) (order starts : List ℕ) (seed rounds : ℕ) (p : Plannable n lent order starts seed rounds) where
@@ -210,4 +204,4 @@ module _ (input : List ℕ) (read : inputRead input .answer .number ≡ 0) where
       all-starts : plannedStarts ≡ keptCells n plannedStarts
       all-starts =
           same-cells n labels lent starts past plannedStarts (printed-starts .size)
-          (λ k l. ap (λ (t : List ℕ). at t k) (made .starts-are) ∙ packed-past (lowest (netOf lent)) (at (made .its-order)) starts n n k (made .packable .whole .inside) l ∙ past .startCells k l)
+          (λ k l. planning-past n lent (cleared 128 0) starts 1 1000 program-plans .1 .cells k l ∙ past .startCells k l)

@@ -166,9 +166,6 @@ unfolding pathText
 path-length labels table k =
     omega (arith, length-append (labelOf labels k) (space ++ (numeral (at table k) ++ lineFeed)), length-append (numeral (at table k)) lineFeed)
 
-pub path-bound : (labels table : List ℕ) (k : ℕ) → at table k < 100000 → length (pathText labels table k) ≤ 15
-path-bound labels table k b = omega (arith, path-length labels table k, label-short labels k, digits-few (at table k) b)
-
 -- a guard's line, where there is one
 abbrev pub pairText : List ℕ → List ℕ → ℕ → ℕ → List ℕ
 pairText labels guards i j = labelOf labels i ++ (space ++ (labelOf labels j ++ (space ++ (numeral (at guards (cell i j)) ++ lineFeed))))

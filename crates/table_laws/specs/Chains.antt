@@ -22,10 +22,6 @@ pub count-clear : (n : ℕ) → countFault n .number ≡ 0 → (1 ≤ n) × (n �
 unfolding countFault
 count-clear n z = outside-not 1 128 n (refuse-clear (outside 1 128 n) 1 0 (omega arith) z)
 
-pub network-count : (n : ℕ) (lent : Lent) → networkFault n lent .number ≡ 0 → (1 ≤ n) × (n ≤ 128)
-unfolding networkFault
-network-count n lent z = count-clear n (or-clear _ _ z .0)
-
 -- 2, of a table of so many cells, and of the tables that every call is lent
 pub size-is : (table : List ℕ) (cells size : ℕ) {f : Fault} → f ≡ refuseIf (not (eqb cells size)) 2 0 → length table ≡ cells → f ≡ sizeFault table size
 unfolding sizeFault
