@@ -1,8 +1,8 @@
 /*
  * Nesbrunka: frequency slots for lightpaths, over lent tables.
  *
- * Tables. Every table has one fixed size, whatever n is; n, the number of paths, is 1 to 128, and
- * paths are numbered from 0.
+ * Tables. The size of a table does not depend on n, the number of paths, which is 1 to 128; paths
+ * are numbered from 0.
  *
  *   widths   128 numbers of 16 bits    each 1 to 64 slots
  *   guards   16,384 bytes              the cell of i and j is 128 * i + j: 0 to 32 is a conflict
@@ -12,8 +12,7 @@
  *   order    128 bytes                 the first n hold each of 0 to n-1 once
  *   labels   1,024 bytes               eight a path, filled at the end with zero bytes
  *
- * Cells of index n or more are never tested, and calls other than nesbrunka_read leave them
- * unchanged.
+ * What stands in the cells past n makes no difference, and only nesbrunka_read changes it.
  *
  * Pointers and lengths. A table is passed as a pointer and then its number of cells (not bytes:
  * 128 for widths), and the call believes both.
@@ -28,10 +27,9 @@
  *   - The library keeps no state and allocates nothing, and needs nothing but memset. Calls on
  *     different tables may run at the same time.
  *
- * Answers. `number` is NESBRUNKA_DONE or the number of a refusal, `place` says where. A refusal
- * leaves every lent table unchanged, except that nesbrunka_read's refusals other than
- * NESBRUNKA_REFUSED_SIZE leave its four tables cleared: widths and starts 0, guards 255, labels 0.
- * Other numbers in a refused answer are 0. Each call says below what it tests, in its order.
+ * Answers. `number` is NESBRUNKA_DONE or the number of a refusal, `place` says where. A refused call
+ * changes no table, and its other numbers are 0; but nesbrunka_read, unless it refuses a size,
+ * clears its four tables: guards 255, all else 0. Each call says below what it tests, in its order.
  */
 #ifndef NESBRUNKA_H
 #define NESBRUNKA_H
@@ -68,42 +66,43 @@ enum {
     NESBRUNKA_SHEET_MOST = 45489   /* bytes of the longest sheet */
 };
 
-/* Numbers returned. In each comment: when it is given, and what the place is. */
+/* The numbers. In each comment: what is wrong, and what the place is. */
 enum {
-    /* done; 0 */
+    /* nothing is wrong; 0 */
     NESBRUNKA_DONE = 0,
-    /* n not 1 to 128; over 2,000 pairs; starts count not n; line, or 0 */
+    /* n outside 1 to 128; over 2,000 pairs; in a sheet a count that cannot be; line, else 0 */
     NESBRUNKA_REFUSED_COUNT = 1,
-    /* a lent table is not of its size; 0 */
+    /* a table has not its size; 0 */
     NESBRUNKA_REFUSED_SIZE = 2,
-    /* width not 1 to 64; path or line */
+    /* a width outside 1 to 64; path or line */
     NESBRUNKA_REFUSED_WIDTH = 3,
-    /* guard cell not 0 to 32 or 255, diagonal not 255, in a sheet over 32; cell or line */
+    /* a guard that is neither 0 to 32 nor 255, a diagonal that is not 255; in a sheet, over 32;
+       cell or line */
     NESBRUNKA_REFUSED_GUARD = 4,
-    /* first cell with i < j unequal to its mirror; cell */
+    /* the two cells of a pair differ; the cell above the diagonal */
     NESBRUNKA_REFUSED_MIRROR = 5,
-    /* order entry n or more, or seen earlier; position */
+    /* an order's entry is no path, or comes twice; position */
     NESBRUNKA_REFUSED_ENTRY = 6,
-    /* start not 1 to 16,384; path or line */
+    /* a start outside 1 to 16,384; path or line */
     NESBRUNKA_REFUSED_START = 7,
-    /* first conflicting pair, i < j, too close; cell */
+    /* a conflicting pair is too close; the cell above the diagonal */
     NESBRUNKA_REFUSED_CLASH = 8,
-    /* no two sides; 0 */
+    /* the network has no two sides; 0 */
     NESBRUNKA_REFUSED_NO_SIDES = 9,
-    /* rounds over 10,000; 0 */
+    /* more than 10,000 rounds; 0 */
     NESBRUNKA_REFUSED_ROUNDS = 10,
-    /* wrong form of a line, in the writer of a label; line or path */
+    /* a line has not its form; in the writer, a label; line or path */
     NESBRUNKA_REFUSED_FORM = 11,
-    /* label twice; later line or path */
+    /* a label comes twice; the later line or path */
     NESBRUNKA_REFUSED_LABEL_TWICE = 12,
-    /* guard label unknown or paired with itself, starts label not the path's; line */
+    /* a guard line names no path or one path twice; a start's line names another path; line */
     NESBRUNKA_REFUSED_LABEL_UNKNOWN = 13,
-    /* pair given twice; line */
+    /* a pair comes twice; line */
     NESBRUNKA_REFUSED_PAIR_TWICE = 14,
-    /* floor list empty, over 8, or entry out of range, repeated or not in conflict with an
-       earlier one; position, or 0 for the length */
+    /* a floor's list of no or over 8 paths; an entry that is no path, comes twice or lacks a
+       conflict; position, else 0 */
     NESBRUNKA_REFUSED_LIST = 15,
-    /* written sheet longer than the lent text; 0 */
+    /* the sheet does not fit into the lent text; 0 */
     NESBRUNKA_REFUSED_ROOM = 16
 };
 
@@ -149,46 +148,43 @@ typedef struct {
     size_t length; /* the sheet's length in bytes */
 } nesbrunka_sheet_written;
 
-/* Judges a plan: for each conflicting pair one starts above the other's end plus their guard.
-   Tests 2, 1, 3, 4, 5, 7, 8 in this order. Writes nothing. */
+/* Judges a plan: of each conflicting pair one path lies above the other, with at least their
+   guard between. Tests 2, 1, 3, 4, 5, 7, 8 in this order. Writes nothing. */
 nesbrunka_judged nesbrunka_judge(size_t n,
                                  const uint16_t *widths, size_t widths_length,
                                  const uint8_t *guards, size_t guards_length,
                                  const uint16_t *starts, size_t starts_length);
 
-/* Packs an order: in that order, each start is the largest of 1 and end + guard + 1 over the
-   conflicting paths earlier in it. Tests 2, 1, 3, 4, 5, 6. Writes the first n starts. */
+/* Packs an order: each path in turn gets the lowest start past all earlier paths in conflict
+   with it. Tests 2, 1, 3, 4, 5, 6. Writes the first n starts. */
 nesbrunka_packed nesbrunka_pack(size_t n,
                                 const uint16_t *widths, size_t widths_length,
                                 const uint8_t *guards, size_t guards_length,
                                 const uint8_t *order, size_t order_length,
                                 uint16_t *starts, size_t starts_length);
 
-/* Presses a valid plan: orders it by start, equal starts by number, and packs.
-   Tests 2, 1, 3, 4, 5, 7, 8. Writes the first n starts. */
+/* Presses a valid plan: its paths by start, of equal starts the lower number first, packed in
+   that order. Tests 2, 1, 3, 4, 5, 7, 8. Writes the first n starts. */
 nesbrunka_packed nesbrunka_press(size_t n,
                                  const uint16_t *widths, size_t widths_length,
                                  const uint8_t *guards, size_t guards_length,
                                  uint16_t *starts, size_t starts_length);
 
-/* The better of two orders, the one whose packing has the lower highest slot: 1 for the first,
-   on equality too, 2 for the second, and 0 exactly when a packing of either would be refused.
-   Writes nothing. */
+/* Which of two orders packs to the lower highest slot: 1 the first, on equality too, 2 the second,
+   0 where one of the two cannot be packed. Writes nothing. */
 size_t nesbrunka_better(size_t n,
                         const uint16_t *widths, size_t widths_length,
                         const uint8_t *guards, size_t guards_length,
                         const uint8_t *first, size_t first_length,
                         const uint8_t *second, size_t second_length);
 
-/* The two-sided order: the low side by number, then the high side by number, and the size of the
-   low side. Tests 2, 1, 3, 4, 5, 9. Writes the first n entries of the order. */
+/* The two-sided order, the low paths first, and how many these are. Tests 2, 1, 3, 4, 5, 9. Writes the first n entries of the order. */
 nesbrunka_sided nesbrunka_two_sides(size_t n,
                                     const uint16_t *widths, size_t widths_length,
                                     const uint8_t *guards, size_t guards_length,
                                     uint8_t *order, size_t order_length);
 
-/* Plans: the two-sided order if there are sides, with no rounds run; otherwise the greedy order,
-   improved. Tests 2, 1, 3, 4, 5, 10; what stands in the order and the starts before is not
+/* Plans: where there are two sides the best plan outright, else the greedy order, improved. Tests 2, 1, 3, 4, 5, 10; what stands in the order and the starts before is not
    tested. Writes the first n entries of the order and the first n starts. */
 nesbrunka_planned nesbrunka_plan(size_t n,
                                  const uint16_t *widths, size_t widths_length,
@@ -197,8 +193,8 @@ nesbrunka_planned nesbrunka_plan(size_t n,
                                  uint16_t *starts, size_t starts_length,
                                  uint32_t seed, size_t rounds);
 
-/* Improves an order for 0 to 10,000 rounds: each draws two places, swaps them, packs, and keeps
-   the swap only if the highest slot is strictly lower. Tests 2, 1, 3, 4, 5, 6, 10. Writes the
+/* Improves an order: each round tries one swap of two drawn places, and undoes it unless the
+   highest slot falls. Tests 2, 1, 3, 4, 5, 6, 10. Writes the
    first n entries of the order and the first n starts. */
 nesbrunka_planned nesbrunka_improve(size_t n,
                                     const uint16_t *widths, size_t widths_length,
@@ -207,8 +203,7 @@ nesbrunka_planned nesbrunka_improve(size_t n,
                                     uint16_t *starts, size_t starts_length,
                                     uint32_t seed, size_t rounds);
 
-/* The floor of a list of 1 to 8 distinct paths, all in conflict with each other: no valid plan's
-   highest slot is below it. Tests 2, 1, 3, 4, 5, 15. Writes nothing. */
+/* The floor of a list of 1 to 8 paths, each two in conflict: every valid plan reaches it. Tests 2, 1, 3, 4, 5, 15. Writes nothing. */
 nesbrunka_floored nesbrunka_floor(size_t n,
                                   const uint16_t *widths, size_t widths_length,
                                   const uint8_t *guards, size_t guards_length,

@@ -67,43 +67,43 @@ pub const SHEET_MOST: usize = 45489;
 
 /// Done. Place 0.
 pub const DONE: usize = 0;
-/// n is not 1 to 128, there are over 2,000 pairs, or not n starts. Place: the line, or 0.
+/// n outside 1 to 128; over 2,000 pairs; in a sheet a count that cannot be. Place: the line, else 0.
 pub const REFUSED_COUNT: usize = 1;
-/// A lent table is not of its size. Place 0.
+/// A table has not its size. Place 0.
 pub const REFUSED_SIZE: usize = 2;
-/// A width is not 1 to 64. Place: the path or line.
+/// A width outside 1 to 64. Place: the path or line.
 pub const REFUSED_WIDTH: usize = 3;
-/// A guard is not 0 to 32 or 255, on the diagonal not 255; in a sheet, over 32. Place: the cell or
-/// line.
+/// A guard that is neither 0 to 32 nor 255, a diagonal that is not 255; in a sheet, over 32. Place:
+/// the cell or line.
 pub const REFUSED_GUARD: usize = 4;
-/// A guard cell is unequal to its mirror. Place: the first such cell with i below j.
+/// The two cells of a pair differ. Place: the cell above the diagonal.
 pub const REFUSED_MIRROR: usize = 5;
-/// An entry of an order is n or more, or was seen earlier. Place: its position.
+/// An order's entry is no path, or comes twice. Place: its position.
 pub const REFUSED_ENTRY: usize = 6;
-/// A start is not 1 to 16,384. Place: the path or line.
+/// A start outside 1 to 16,384. Place: the path or line.
 pub const REFUSED_START: usize = 7;
-/// A conflicting pair is too close. Place: its cell with i below j.
+/// A conflicting pair is too close. Place: its cell above the diagonal.
 pub const REFUSED_CLASH: usize = 8;
-/// There are no two sides. Place 0.
+/// The network has no two sides. Place 0.
 pub const REFUSED_NO_SIDES: usize = 9;
-/// Rounds are over 10,000. Place 0.
+/// More than 10,000 rounds. Place 0.
 pub const REFUSED_ROUNDS: usize = 10;
-/// A line has the wrong form; in the writer, a label. Place: the line or path.
+/// A line has not its form; in the writer, a label. Place: the line or path.
 pub const REFUSED_FORM: usize = 11;
-/// A label is there twice. Place: the later line or path.
+/// A label comes twice. Place: the later line or path.
 pub const REFUSED_LABEL_TWICE: usize = 12;
-/// A guard's label is unknown or paired with itself, or a start's is not the path's. Place: the
-/// line.
+/// A guard line names no path or one path twice; a start's line names another path. Place: the line.
 pub const REFUSED_LABEL_UNKNOWN: usize = 13;
-/// A pair is given twice. Place: the line.
+/// A pair comes twice. Place: the line.
 pub const REFUSED_PAIR_TWICE: usize = 14;
-/// A floor's list is empty or over 8, or an entry is out of range, repeated or not in conflict
-/// with an earlier one. Place: the position, or 0 for the length.
+/// A floor's list of no or over 8 paths; an entry that is no path, comes twice or lacks a conflict.
+/// Place: the position, else 0.
 pub const REFUSED_LIST: usize = 15;
-/// The written sheet is longer than the lent text. Place 0.
+/// The sheet does not fit into the lent text. Place 0.
 pub const REFUSED_ROOM: usize = 16;
 
-/// Judges a plan: of each conflicting pair one starts above the other's end plus their guard.
+/// Judges a plan: of each conflicting pair one path lies above the other, with at least their guard
+/// between.
 ///
 /// Tests in this order: 2, 1, 3, 4, 5, 7, 8.
 #[inline]
@@ -113,8 +113,8 @@ pub fn judge(n: usize, widths: &[u16], guards: &[u8], starts: &[u16]) -> Judged 
     unsafe { sys::nesbrunka_judge(n, w, widths.len(), g, guards.len(), s, starts.len()) }
 }
 
-/// Packs an order into the first n starts: in that order, each start is the largest of 1 and
-/// end + guard + 1 over the conflicting paths earlier in it.
+/// Packs an order into the first n starts: each path in turn gets the lowest start past all earlier
+/// paths in conflict with it.
 ///
 /// Tests in this order: 2, 1, 3, 4, 5, 6.
 #[inline]
@@ -127,8 +127,8 @@ pub fn pack(n: usize, widths: &[u16], guards: &[u8], order: &[u8], starts: &mut 
     }
 }
 
-/// Presses a valid plan: orders it by start, equal starts by number, and packs it into the first n
-/// starts.
+/// Presses a valid plan: its paths by start, of equal starts the lower number first, packed in that
+/// order into the first n starts.
 ///
 /// Tests in this order: 2, 1, 3, 4, 5, 7, 8.
 #[inline]
@@ -141,7 +141,7 @@ pub fn press(n: usize, widths: &[u16], guards: &[u8], starts: &mut [u16]) -> Pac
 /// The first n entries of the better of two orders, that part itself: of the one whose packing has
 /// the lower highest slot, of the first where they are equal.
 ///
-/// Empty exactly when a packing of either would be refused.
+/// Empty where one of the two cannot be packed.
 #[inline]
 pub fn better<'a>(
     n: usize, widths: &[u16], guards: &[u8], first: &'a [u8], second: &'a [u8],
@@ -159,8 +159,8 @@ pub fn better<'a>(
     }
 }
 
-/// The two-sided order, into the first n entries of `order`: the low side by number, then the high
-/// side by number. Answers the size of the low side.
+/// The two-sided order, the low paths first, into the first n entries of `order`. Answers how many
+/// are low.
 ///
 /// Tests in this order: 2, 1, 3, 4, 5, 9.
 #[inline]
@@ -170,8 +170,7 @@ pub fn two_sides(n: usize, widths: &[u16], guards: &[u8], order: &mut [u8]) -> S
     unsafe { sys::nesbrunka_two_sides(n, w, widths.len(), g, guards.len(), o, order.len()) }
 }
 
-/// Plans: the two-sided order if there are sides, with no rounds run; otherwise the greedy order,
-/// improved. Writes the first n entries of the order and the first n starts; what stood there is
+/// Plans: where there are two sides the best plan outright, else the greedy order, improved. Writes the first n entries of the order and the first n starts; what stood there is
 /// not tested.
 ///
 /// Tests in this order: 2, 1, 3, 4, 5, 10.
@@ -200,8 +199,8 @@ pub fn plan(
     }
 }
 
-/// Improves an order: each of 0 to 10,000 rounds draws two places, swaps them, packs, and keeps the
-/// swap only if the highest slot is strictly lower. Writes the first n entries of the order and
+/// Improves an order: each round tries one swap of two drawn places, and undoes it unless the
+/// highest slot falls. Writes the first n entries of the order and
 /// the first n starts.
 ///
 /// Tests in this order: 2, 1, 3, 4, 5, 6, 10.
@@ -230,8 +229,7 @@ pub fn improve(
     }
 }
 
-/// The floor of a list of 1 to 8 distinct paths, all in conflict with each other: no valid plan's
-/// highest slot is below it.
+/// The floor of a list of 1 to 8 paths, each two in conflict: every valid plan reaches it.
 ///
 /// Tests in this order: 2, 1, 3, 4, 5, 15.
 #[inline]
