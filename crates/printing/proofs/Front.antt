@@ -8,7 +8,7 @@ use lib.Seq.{take-append-seam}
 use Rattle.rules.specs.Tables.{cleared, lend}
 use Rattle.rules.specs.Calls.{reading}
 use Rattle.rules.specs.Program.{printed}
-use Rattle.plan.specs.Made.{noted, Made}
+use Rattle.printing.specs.Made.{noted, Made}
 use Rattle.io.proofs.Counting.{counts}
 use Rattle.sheet_laws.specs.FirstBytes.{first-bytes-from}
 

@@ -4,11 +4,11 @@ use denote.Ref.{now}
 use Rattle.rules.specs.Tables.{lend}
 use Rattle.rules.specs.Program.{refusalText}
 use Rattle.console.proofs.Keeping.{front}
-use Rattle.plan.proofs.Prints.{short-refusal, few-paths, prints-refusal, prints-plan, notes-nothing, notes-plan}
-use Rattle.plan.proofs.Front.{made-printed, made-noted}
+use Rattle.printing.proofs.Prints.{short-refusal, few-paths, prints-refusal, prints-plan, notes-nothing, notes-plan}
+use Rattle.printing.proofs.Front.{made-printed, made-noted}
 use borrow.Author.Needs.{needs}
-use Rattle.plan.proofs.answer.Statement.{statement}
-use Rattle.plan.proofs.answer.Tie as tie
+use Rattle.printing.proofs.answer.Statement.{statement}
+use Rattle.printing.proofs.answer.Tie as tie
 
 read-requires : tie.Need-read-requires
 read-requires c κs = search needs

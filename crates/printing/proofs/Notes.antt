@@ -14,7 +14,7 @@ use Rattle.rules.specs.Text.{bytes, numeral}
 use Rattle.rules.specs.Writing.{pairs}
 use Rattle.rules.specs.Calls.{Left, left, planning, siding}
 use Rattle.notes.specs.Note.{noteText}
-use Rattle.plan.specs.Made.{noteOf}
+use Rattle.printing.specs.Made.{noteOf}
 
 pub note-of : (n : ℕ) (lent : Lent) (starts order order′ starts′ : List ℕ) (p : Planned) → order ≡ cleared 128 0
     → _≡_ {A = Left Planned (List ℕ × List ℕ)} (left p (order′, starts′)) (planning n lent order starts 1 1000)

@@ -3,11 +3,11 @@ use native.Mathlib.Omega.{arith}
 use denote.Ref.{now}
 use Rattle.rules.specs.Tables.{lend}
 use Rattle.console.proofs.Keeping.{front}
-use Rattle.plan.proofs.Prints.{prints-sheet, prints-within, blank-order}
-use Rattle.plan.proofs.Notes.{note-of}
+use Rattle.printing.proofs.Prints.{prints-sheet, prints-within, blank-order}
+use Rattle.printing.proofs.Notes.{note-of}
 use borrow.Author.Needs.{needs}
-use Rattle.plan.proofs.planned.Statement.{statement}
-use Rattle.plan.proofs.planned.Tie as tie
+use Rattle.printing.proofs.planned.Statement.{statement}
+use Rattle.printing.proofs.planned.Tie as tie
 
 slice-aggregate-plan : tie.Need-slice-aggregate-plan
 slice-aggregate-plan c = search needs

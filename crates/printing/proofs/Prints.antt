@@ -20,7 +20,7 @@ use Rattle.rules.specs.Writing.{sheetText, badLabel, labelTwice, pairs, hasPlan
 use Rattle.rules.specs.Numbers.{_orElse_, noFault, refuseIf, scan, badStart, sizeFault, networkSizes, networkFault, labelSizes, sheetSizes, writeFault}
 use Rattle.rules.specs.Calls.{Left, left, unless, planning, readOutcome, reading, writing}
 use Rattle.rules.specs.Program.{refusalText, plannedText, printed}
-use Rattle.plan.specs.Made.{noteOf, noted}
+use Rattle.printing.specs.Made.{noteOf, noted}
 use Rattle.table_laws.specs.Tables.{cleared-length}
 use Rattle.sheet_laws.specs.Writes.{both-pieces, digits-few}
 use Rattle.table_laws.specs.Faults.{or-clear, refuse-clear, size-good}
