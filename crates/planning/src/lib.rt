@@ -1,6 +1,6 @@
 // The two sides, improving, planning and the floor. Each call is lent its tables, tests them in the order
-// of their numbers, and has one promise: what it leaves behind is what the definition of its name in
-// `rules` says. Every `pub fn` here is a call.
+// of RULES 18, and has one promise: what it leaves behind is what the definition of its name in `rules`
+// says. Every `pub fn` here is a call.
 use rules::Fault;
 use rules::Floored;
 use rules::Planned;
