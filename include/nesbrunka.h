@@ -85,7 +85,7 @@ enum {
     NESBRUNKA_REFUSED_ENTRY = 6,
     /* a start outside 1 to 16,384; path or line */
     NESBRUNKA_REFUSED_START = 7,
-    /* a conflicting pair is too close; the cell above the diagonal */
+    /* a conflicting pair is too close; the cell above the diagonal. `short_` says by how many slots */
     NESBRUNKA_REFUSED_CLASH = 8,
     /* the network has no two sides; 0 */
     NESBRUNKA_REFUSED_NO_SIDES = 9,
@@ -109,6 +109,7 @@ enum {
 typedef struct {
     size_t number;
     size_t place;
+    size_t short_; /* with number 8, how many slots the pair lacks; else 0 */
 } nesbrunka_judged;
 
 typedef struct {
@@ -116,6 +117,13 @@ typedef struct {
     size_t place;
     size_t highest; /* the highest slot */
 } nesbrunka_packed;
+
+typedef struct {
+    size_t number;
+    size_t place;
+    size_t short_;  /* with number 8, how many slots the pair lacks; else 0 */
+    size_t highest; /* the highest slot */
+} nesbrunka_pressed;
 
 typedef struct {
     size_t number;
@@ -149,7 +157,9 @@ typedef struct {
 } nesbrunka_sheet_written;
 
 /* Judges a plan: of each conflicting pair one path lies above the other, with at least their
-   guard between. Tests 2, 1, 3, 4, 5, 7, 8 in this order. Writes nothing. */
+   guard between. Tests 2, 1, 3, 4, 5, 7, 8 in this order. Writes nothing. Where 8 refuses, the
+   upper path of the pair (on equal starts the one of the higher number) moved up by `short_` slots
+   is clear of the other, and by one slot less it is not. */
 nesbrunka_judged nesbrunka_judge(size_t n,
                                  const uint16_t *widths, size_t widths_length,
                                  const uint8_t *guards, size_t guards_length,
@@ -165,10 +175,10 @@ nesbrunka_packed nesbrunka_pack(size_t n,
 
 /* Presses a valid plan: its paths by start, of equal starts the lower number first, packed in
    that order. Tests 2, 1, 3, 4, 5, 7, 8. Writes the first n starts. */
-nesbrunka_packed nesbrunka_press(size_t n,
-                                 const uint16_t *widths, size_t widths_length,
-                                 const uint8_t *guards, size_t guards_length,
-                                 uint16_t *starts, size_t starts_length);
+nesbrunka_pressed nesbrunka_press(size_t n,
+                                  const uint16_t *widths, size_t widths_length,
+                                  const uint8_t *guards, size_t guards_length,
+                                  uint16_t *starts, size_t starts_length);
 
 /* Which of two orders packs to the lower highest slot: 1 the first, on equality too, 2 the second,
    0 where one of the two cannot be packed. Writes nothing. */

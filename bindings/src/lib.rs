@@ -38,7 +38,7 @@
 #[rustfmt::skip]
 pub mod sys;
 
-pub use sys::{Floored, Judged, Packed, Planned, SheetRead, SheetWritten, Sided};
+pub use sys::{Floored, Judged, Packed, Planned, Pressed, SheetRead, SheetWritten, Sided};
 
 /// Cells of widths, of starts and of an order; the most paths.
 pub const PATHS: usize = 128;
@@ -82,7 +82,8 @@ pub const REFUSED_MIRROR: usize = 5;
 pub const REFUSED_ENTRY: usize = 6;
 /// A start outside 1 to 16,384. Place: the path or line.
 pub const REFUSED_START: usize = 7;
-/// A conflicting pair is too close. Place: its cell above the diagonal.
+/// A conflicting pair is too close. Place: its cell above the diagonal. `short` says by how many
+/// slots: the upper path of the two moved up by so many is clear of the lower.
 pub const REFUSED_CLASH: usize = 8;
 /// The network has no two sides. Place 0.
 pub const REFUSED_NO_SIDES: usize = 9;
@@ -103,7 +104,7 @@ pub const REFUSED_LIST: usize = 15;
 pub const REFUSED_ROOM: usize = 16;
 
 /// Judges a plan: of each conflicting pair one path lies above the other, with at least their guard
-/// between.
+/// between. Where it is refused by 8, `short` says how many slots the pair lacks.
 ///
 /// Tests in this order: 2, 1, 3, 4, 5, 7, 8.
 #[inline]
@@ -132,7 +133,7 @@ pub fn pack(n: usize, widths: &[u16], guards: &[u8], order: &[u8], starts: &mut 
 ///
 /// Tests in this order: 2, 1, 3, 4, 5, 7, 8.
 #[inline]
-pub fn press(n: usize, widths: &[u16], guards: &[u8], starts: &mut [u16]) -> Packed {
+pub fn press(n: usize, widths: &[u16], guards: &[u8], starts: &mut [u16]) -> Pressed {
     let (w, g, s) = (widths.as_ptr(), guards.as_ptr(), starts.as_mut_ptr());
     // SAFETY: each pointer and length are those of one slice; the one written is borrowed alone.
     unsafe { sys::nesbrunka_press(n, w, widths.len(), g, guards.len(), s, starts.len()) }

@@ -15,9 +15,11 @@ pub struct Judged {
     pub number: usize,
     /// Where.
     pub place: usize,
+    /// With number 8, how many slots short the pair is; else 0.
+    pub short: usize,
 }
 
-/// What packing and pressing answer, beside the starts in their table.
+/// What packing answers, beside the starts in their table.
 #[repr(C)]
 #[derive(Clone, Copy, Debug, PartialEq, Eq)]
 pub struct Packed {
@@ -25,6 +27,20 @@ pub struct Packed {
     pub number: usize,
     /// Where.
     pub place: usize,
+    /// The highest slot.
+    pub highest: usize,
+}
+
+/// What pressing answers, beside the starts in their table.
+#[repr(C)]
+#[derive(Clone, Copy, Debug, PartialEq, Eq)]
+pub struct Pressed {
+    /// 0, or the number of the refusal.
+    pub number: usize,
+    /// Where.
+    pub place: usize,
+    /// With number 8, how many slots short the pair is; else 0.
+    pub short: usize,
     /// The highest slot.
     pub highest: usize,
 }
@@ -115,7 +131,7 @@ extern "C" {
         widths: *const u16, widths_length: usize,
         guards: *const u8, guards_length: usize,
         starts: *mut u16, starts_length: usize,
-    ) -> Packed;
+    ) -> Pressed;
 
     /// See [`crate::better`]: 1 for the first order, 2 for the second, 0 for neither.
     pub fn nesbrunka_better(

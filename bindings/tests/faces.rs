@@ -131,8 +131,16 @@ fn rust_call(call: &Shape) -> String {
     format!("pub fn {}({})->{};", call.name, arguments.join(","), call.result)
 }
 
+/// A field's name in C, which keeps some words for itself.
+fn c_field(name: &str) -> String {
+    match name {
+        "short" => "short_".into(),
+        free => free.into(),
+    }
+}
+
 fn c_answer(answer: &Shape) -> String {
-    let field = |(name, kind): &(String, String)| format!("{} {name};", in_c(kind));
+    let field = |(name, kind): &(String, String)| format!("{} {};", in_c(kind), c_field(name));
     let fields: String = answer.parts.iter().map(field).collect();
     format!("typedef struct{{{fields}}}{};", in_c(&answer.name))
 }

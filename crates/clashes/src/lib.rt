@@ -1,30 +1,55 @@
-// An inner crate: the test 8, of a plan whose other tests have found no fault.
+// An inner crate: the test 8, of a plan whose other tests have found no fault, with how many slots short the
+// pair is.
 use rules::Fault;
 ghost use mathlib.Core.Path.{_≡_};
-ghost use Prim.Native.Nat.{ℕ, _≤_, _<_};
-ghost use Rattle.rules.specs.Tables.{at, lend};
+ghost use mathlib.Core.Bool.{true, false};
+ghost use Prim.Native.Nat.{ℕ, _+_, _-_, _≤_, _<_};
+ghost use Rattle.rules.specs.Tables.{at, cell, lend};
 ghost use Rattle.rules.specs.Limits.{Network, Starts};
-ghost use Rattle.rules.specs.Scan.{first, found};
-ghost use Rattle.rules.specs.Plan.{netOf, tooClose};
+ghost use Rattle.rules.specs.Scan.{first};
+ghost use Rattle.rules.specs.Plan.{netOf, short, tooClose};
+ghost use Rattle.rules.specs.declared.Fault.{Fault};
 ghost use Rattle.rules.specs.Numbers.{clashFault};
-ghost use Rattle.plan_laws.specs.Clash.{pairClose};
+ghost use Rattle.plan_laws.specs.Clash.{pairShort, lack};
 
-// 8, of one pair: two paths with guard g, at s with width w and at t with width v, are in conflict and too
-// close, that is neither lies clear above the other (RULES 4).
-fn pair_close(g: u8, s: u16, w: u16, t: u16, v: u16) -> bool
+// End + guard + 1: the first slot past a path at s with width w and its guard g.
+fn past(s: u16, w: u16, g: u8) -> u16
+    requires { ⌜ (1 ≤ w) × ((w ≤ 64) × (s ≤ 16384)) ⌝ }
+    ensures { λ r. ⌜ r ≡ s + w - 1 + g + 1 ⌝ }
+{
+    s + w - 1 + (g as u16) + 1
+}
+
+// How far a start is below the slot where it would be clear, 0 where it is not.
+fn below(start: u16, clear: u16) -> u16
+    ensures { λ r. ⌜ r ≡ clear - start ⌝ }
+{
+    if start < clear { clear - start } else { 0 }
+}
+
+// How many slots short two paths with guard g are (RULES 4), at s with width w and at t with width v: the lower
+// start is asked, the first path's where they start together. 0 where they are not in conflict.
+fn pair_short(g: u8, s: u16, w: u16, t: u16, v: u16) -> u16
     requires { ⌜ (1 ≤ w) × ((w ≤ 64) × ((1 ≤ v) × ((v ≤ 64) × ((s ≤ 16384) × (t ≤ 16384))))) ⌝ }
-    ensures { λ r. ⌜ r ≡ pairClose g s w t v ⌝ }
+    ensures { λ r. ⌜ r ≡ pairShort g s w t v ⌝ }
 {
     if rules::NO_CONFLICT <= g {
-        return false;
+        return 0;
     }
-    if s + w - 1 + (g as u16) < t {
-        return false;
+    if t < s {
+        return below(s, past(t, v, g));
     }
-    if t + v - 1 + (g as u16) < s {
-        return false;
-    }
-    true
+    below(t, past(s, w, g))
+}
+
+// The same of paths i and j, i<j.
+fn cell_short(n: usize, i: usize, j: usize, widths: &[u16], guards: &[u8], starts: &[u16]) -> u16
+    requires { ⌜ (i < j) × ((j < n) × (Network n (lend (now widths) (now guards)) × Starts n (now starts))) ⌝ }
+    ensures { λ r. ⌜ r ≡ lack (netOf (lend (now (widths .entry)) (now (guards .entry))))
+        (at (now (starts .entry))) i j ⌝ }
+{
+    let g = guards[rules::PATHS * i + j];
+    pair_short(g, starts[i], widths[i], starts[j], widths[j])
 }
 
 // The first path past i that is too close to i, or n.
@@ -36,8 +61,7 @@ fn close_search(n: usize, i: usize, widths: &[u16], guards: &[u8], starts: &[u16
 {
     let mut j: usize = i + 1;
     while j < n {
-        let g = guards[rules::PATHS * i + j];
-        if pair_close(g, starts[i], widths[i], starts[j], widths[j]) {
+        if cell_short(n, i, j, widths, guards, starts) != 0 {
             return j;
         }
         j += 1;
@@ -45,24 +69,20 @@ fn close_search(n: usize, i: usize, widths: &[u16], guards: &[u8], starts: &[u16
     n
 }
 
-// Whether some path past i is too close to i; with no branch on a pair.
-fn row_close(n: usize, i: usize, widths: &[u16], guards: &[u8], starts: &[u16]) -> bool
+// The most slots that a path past i is short, or 0: then none is too close to i. With no branch on a pair.
+fn row_short(n: usize, i: usize, widths: &[u16], guards: &[u8], starts: &[u16]) -> u16
     requires { ⌜ (i < n) × (Network n (lend (now widths) (now guards)) × Starts n (now starts)) ⌝ }
-    ensures { λ r. ⌜ r ≡ found
-        (tooClose (netOf (lend (now (widths .entry)) (now (guards .entry)))) (at (now (starts .entry))) i)
-        n ⌝ }
+    ensures { λ r. ⌜ (r ≡ 0 → (j : ℕ) → j < n → tooClose
+        (netOf (lend (now (widths .entry)) (now (guards .entry)))) (at (now (starts .entry))) i j ≡ false) ⌝ }
 {
-    let s = starts[i];
-    let w = widths[i];
-    let mut any = false;
+    let mut most: u16 = 0;
     let mut j: usize = i + 1;
     while j < n {
-        let g = guards[rules::PATHS * i + j];
-        let x = pair_close(g, s, w, starts[j], widths[j]);
-        any = tables::either(any, x);
+        let x = cell_short(n, i, j, widths, guards, starts);
+        most = engine::larger(most, x);
         j += 1;
     }
-    any
+    most
 }
 
 // The first path past i that is too close to i, or n.
@@ -72,10 +92,25 @@ fn close_row(n: usize, i: usize, widths: &[u16], guards: &[u8], starts: &[u16]) 
         (tooClose (netOf (lend (now (widths .entry)) (now (guards .entry)))) (at (now (starts .entry))) i)
         n ⌝ }
 {
-    if row_close(n, i, widths, guards, starts) {
-        return close_search(n, i, widths, guards, starts);
+    if row_short(n, i, widths, guards, starts) == 0 {
+        return n;
     }
-    n
+    close_search(n, i, widths, guards, starts)
+}
+
+// 8, of paths i and j, which are too close: their cell, and how many slots short they are.
+fn clash(n: usize, i: usize, j: usize, widths: &[u16], guards: &[u8], starts: &[u16]) -> Fault
+    requires { ⌜ (j < n) × (Network n (lend (now widths) (now guards)) × (Starts n (now starts)
+        × (tooClose (netOf (lend (now widths) (now guards))) (at (now starts)) i j ≡ true))) ⌝ }
+    ensures { λ r. ⌜ r ≡ record { number = 8; place = cell i j; short = short
+        (netOf (lend (now (widths .entry)) (now (guards .entry)))) (at (now (starts .entry))) i j } ⌝ }
+{
+    let x = cell_short(n, i, j, widths, guards, starts);
+    Fault {
+        number: rules::REFUSED_CLASH,
+        place: rules::PATHS * i + j,
+        short: x as usize,
+    }
 }
 
 // 8: the first pair that is too close, row by row above the diagonal.
@@ -88,7 +123,7 @@ pub fn clash_fault(n: usize, widths: &[u16], guards: &[u8], starts: &[u16]) -> F
     while i < n {
         let j = close_row(n, i, widths, guards, starts);
         if j < n {
-            return tables::refused(rules::REFUSED_CLASH, rules::PATHS * i + j);
+            return clash(n, i, j, widths, guards, starts);
         }
         i += 1;
     }

@@ -9,8 +9,8 @@ use native.Mathlib.Decide.{decLt}
 use lib.ListN.{length}
 use Rattle.rules.specs.Tables.{at, Lent}
 use Rattle.rules.specs.Limits.{Starts}
-use Rattle.rules.specs.Plan.{Net, netOf, Conflict, Clear, highest, Valid}
-use Rattle.rules.specs.Packing.{past, reach, lowest, packed}
+use Rattle.rules.specs.Plan.{Net, netOf, Conflict, past, Clear, highest, Valid}
+use Rattle.rules.specs.Packing.{reach, lowest, packed}
 use Rattle.rules.specs.Calls.{donePacked, packing}
 use Rattle.plan_laws.specs.Pack.{packed-length}
 use Rattle.plan_laws.specs.Lowest.{lowest-local, reach-conflict, reach-free}

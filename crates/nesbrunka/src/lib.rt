@@ -4,6 +4,7 @@ use rules::Fault;
 use rules::Floored;
 use rules::Packed;
 use rules::Planned;
+use rules::Pressed;
 use rules::SheetRead;
 use rules::SheetWritten;
 use rules::Sided;
@@ -41,7 +42,7 @@ pub extern "C" fn nesbrunka_press(
     widths: &[u16],
     guards: &[u8],
     starts: &mut [u16],
-) -> Packed
+) -> Pressed
     ensures { λ r. ⌜ left r (now (starts .exit))
         ≡ pressing n (lend (now (widths .entry)) (now (guards .entry))) (now (starts .entry)) ⌝ }
 {

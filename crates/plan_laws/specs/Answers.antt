@@ -11,6 +11,7 @@ use lib.Dec.{ltb, leb, eqb}
 use borrow.Author.Tests.{eq-eqb, ne-eqb, eqb-true, ltb-true, ltb-false, le-ltb, leb-false, not-false}
 use Rattle.rules.specs.declared.Fault.{Fault}
 use Rattle.rules.specs.declared.Packed.{Packed}
+use Rattle.rules.specs.declared.Pressed.{Pressed}
 use Rattle.rules.specs.declared.Sided.{Sided}
 use Rattle.rules.specs.declared.Planned.{Planned}
 use Rattle.rules.specs.declared.Floored.{Floored}
@@ -23,10 +24,10 @@ use Rattle.rules.specs.Pressing.{pressed}
 use Rattle.rules.specs.Sides.{hasSides, isHigh, twoSided, lowSide}
 use Rattle.rules.specs.Floor.{Clique, floor}
 use Rattle.rules.specs.Numbers.{noFault, refuseIf, _orElse_, outside, sizeFault, badMember, sidesFault, roundsFault, listFault, planSizes, judgeFault, packFault, twoSidesFault, planFault, improveFault, floorFault}
-use Rattle.rules.specs.Calls.{Left, left, unless, judging, refusedPacked, donePacked, packing, pressing, siding, refusedPlanned, donePlanned, doneImproved, improving, donePlan, planning, flooring}
+use Rattle.rules.specs.Calls.{Left, left, unless, judging, refusedPacked, donePacked, packing, refusedPressed, donePressed, pressing, siding, refusedPlanned, donePlanned, doneImproved, improving, donePlan, planning, flooring}
 use Rattle.table_laws.specs.Scans.{found-not}
 use Rattle.table_laws.specs.Faults.{refuse-bad, refuse-not, refuse-clear, or-second, or-clear, or-none, or-past, never-size, never-lent, scan-clear, size-good, size-clear}
-use Rattle.table_laws.specs.Limits.{outside-not, order-whole, whole-order, starts-within, within-starts}
+use Rattle.table_laws.specs.Limits.{clear-of, outside-not, order-whole, whole-order, starts-within, within-starts}
 use Rattle.table_laws.specs.Chains.{lent-clear, clear-lent, plan-sizes, sizes-plan}
 use Rattle.plan_laws.specs.Fits.{clash-valid, valid-clash}
 
@@ -84,7 +85,7 @@ module _ (n : ℕ) (lent : Lent) (starts : List ℕ) where
   unfolding judgeFault
   clear-judge j =
       or-none _ _ (clear-lent n lent (sizeFault starts 128) (j .network) (sized starts 128 (j .legal .size)))
-      (or-none _ _ (within-starts n starts (j .legal)) (valid-clash n (netOf lent) starts (j .valid)))
+      (or-none _ _ (within-starts n starts (j .legal)) (clear-of (valid-clash n (netOf lent) starts (λ k l. j .network .width k l .0) (j .valid))))
 
   pub judging-judgeable : judging n lent starts .number ≡ 0 → Judgeable n lent starts
   unfolding judging
@@ -95,12 +96,12 @@ module _ (n : ℕ) (lent : Lent) (starts : List ℕ) where
   judgeable-judging = clear-judge
 
   pub pressing-judgeable : pressing n lent starts .answer .number ≡ 0 → Judgeable n lent starts
-  unfolding pressing refusedPacked
-  pressing-judgeable z = judge-clear (unless-clear (λ (r : Left Packed (List ℕ)). r .answer .number) (judgeFault n lent starts) (refusedPacked starts) _ refl z)
+  unfolding pressing refusedPressed
+  pressing-judgeable z = judge-clear (unless-clear (λ (r : Left Pressed (List ℕ)). r .answer .number) (judgeFault n lent starts) (refusedPressed starts) _ refl z)
 
-  pub judgeable-pressing : Judgeable n lent starts → pressing n lent starts ≡ donePacked (netOf lent) n (pressed (netOf lent) n starts)
+  pub judgeable-pressing : Judgeable n lent starts → pressing n lent starts ≡ donePressed (netOf lent) n (pressed (netOf lent) n starts)
   unfolding pressing
-  judgeable-pressing j = unless-done (judgeFault n lent starts) (refusedPacked starts) _ (clear-judge j)
+  judgeable-pressing j = unless-done (judgeFault n lent starts) (refusedPressed starts) _ (clear-judge j)
 
 -- packing
 pub record Packable (n : ℕ) (lent : Lent) (order starts : List ℕ) : Type 0 where

@@ -1,42 +1,58 @@
 -- Test 8, a pair at a time. Assumes nothing.
 use Prim.Native.Nat.{ℕ, _+_, _-_, _≤_, _<_}
-use mathlib.Core.Path.{_≡_, sym, _∙_}
-use mathlib.Core.Bool.{Bool, true, false, not, _||_, _&&_}
-use lib.Dec.{ltb}
-use borrow.Author.Tests.{lt-ltb, le-ltb}
-use Rattle.rules.specs.Plan.{Net, tooClose}
+use mathlib.Core.Path.{_≡_, refl, sym, _∙_}
+use mathlib.Core.Logic.{_≢_}
+use mathlib.Core.Bool.{Bool, true, false, cond, not, _&&_, true≢false}
+use native.Mathlib.Omega.{arith}
+use native.Mathlib.Decide.{decLt}
+use lib.Dec.{ltb, eqb}
+use borrow.Author.Tests.{eq-eqb, ne-eqb, lt-ltb, le-ltb, ltb-true}
+use Rattle.rules.specs.Plan.{Net, inConflict, short, tooClose}
+use Rattle.plan_laws.specs.Short.{short-below, short-above}
 
--- two paths with guard g, at s with width w and at t with width v, are in conflict and too close
-unfoldable pub pairClose : ℕ → ℕ → ℕ → ℕ → ℕ → Bool
-pairClose g s w t v = ltb g 255 && not (ltb (s + w - 1 + g) t || ltb (t + v - 1 + g) s)
+-- how many slots short two paths with guard g are, at s with width w and at t with width v; the first is the
+-- lower where they start together. 0 where they are not in conflict
+unfoldable pub pairShort : ℕ → ℕ → ℕ → ℕ → ℕ → ℕ
+pairShort g s w t v = cond (ltb g 255) (cond (ltb t s) (t + v - 1 + g + 1 - s) (s + w - 1 + g + 1 - t)) 0
 
-close-pair : (net : Net) (plan : ℕ → ℕ) (i j : ℕ) → i < j → net .guard i j ≡ net .guard j i
-    → tooClose net plan i j ≡ pairClose (net .guard i j) (plan i) (net .width i) (plan j) (net .width j)
-unfolding tooClose pairClose
-close-pair net plan i j l e = rw (lt-ltb i j l, e)
+-- the same of paths i and j of a plan
+unfoldable pub lack : Net → (ℕ → ℕ) → ℕ → ℕ → ℕ
+lack net plan i j = cond (inConflict net i j) (short net plan i j) 0
 
--- b is what the test of the pair answered
-pub close-told : (net : Net) (plan : ℕ → ℕ) (i j : ℕ) → i < j → net .guard i j ≡ net .guard j i → {b v : Bool}
-    → b ≡ pairClose (net .guard i j) (plan i) (net .width i) (plan j) (net .width j) → b ≡ v → tooClose net plan i j ≡ v
-close-told net plan i j l e f q = close-pair net plan i j l e ∙ sym f ∙ q
+module _ (net : Net) (plan : ℕ → ℕ) (i j : ℕ) where
+  pub pair-lack : i < j → net .guard i j ≡ net .guard j i
+      → pairShort (net .guard i j) (plan i) (net .width i) (plan j) (net .width j) ≡ lack net plan i j
+  pair-lack l e = go (decLt (plan j) (plan i))
+    where
+      go : Dec (plan j < plan i) → pairShort (net .guard i j) (plan i) (net .width i) (plan j) (net .width j) ≡ lack net plan i j
+      go (yes x) = unfold pairShort lack in (rw (short-above net plan i j x, lt-ltb (plan j) (plan i) x, e))
+      go (no x) = unfold pairShort lack in (rw (short-below net plan i j l (omega arith), le-ltb (plan j) (plan i) (omega arith)))
 
-pub close-before : (net : Net) (plan : ℕ → ℕ) (i j : ℕ) → j ≤ i → tooClose net plan i j ≡ false
-unfolding tooClose
-close-before net plan i j l = rw (le-ltb i j l)
+  -- it tells whether they are too close
+  close-is : tooClose net plan i j ≡ (ltb i j && not (eqb (lack net plan i j) 0))
+  unfolding tooClose lack
+  close-is = go (inConflict net i j)
+    where
+      go : (b : Bool) → (ltb i j && (b && not (eqb (short net plan i j) 0))) ≡ (ltb i j && not (eqb (cond b (short net plan i j) 0) 0))
+      go true = refl
+      go false = refl
 
--- for the code
-pub pair-free : (g s w t v : ℕ) → 255 ≤ g → false ≡ pairClose g s w t v
-unfolding pairClose
-pair-free g s w t v l = rw (le-ltb g 255 l)
+  pub lack-none : i < j → lack net plan i j ≡ 0 → tooClose net plan i j ≡ false
+  lack-none l z = close-is ∙ rw (lt-ltb i j l, eq-eqb (lack net plan i j) 0 z)
 
-pub pair-below : (g s w t v : ℕ) → g < 255 → s + w - 1 + g < t → false ≡ pairClose g s w t v
-unfolding pairClose
-pair-below g s w t v l h = rw (lt-ltb g 255 l, lt-ltb (s + w - 1 + g) t h)
+  pub lack-some : i < j → lack net plan i j ≢ 0 → tooClose net plan i j ≡ true
+  lack-some l h = close-is ∙ rw (lt-ltb i j l, ne-eqb (lack net plan i j) 0 h)
 
-pub pair-above : (g s w t v : ℕ) → g < 255 → t ≤ s + w - 1 + g → t + v - 1 + g < s → false ≡ pairClose g s w t v
-unfolding pairClose
-pair-above g s w t v l h k = rw (lt-ltb g 255 l, le-ltb (s + w - 1 + g) t h, lt-ltb (t + v - 1 + g) s k)
+  -- where they are, i<j, it is the number that 8 says
+  pub close-lack : tooClose net plan i j ≡ true → (i < j) × (lack net plan i j ≡ short net plan i j)
+  unfolding tooClose lack
+  close-lack e = go (ltb i j) refl (inConflict net i j) e
+    where
+      go : (a : Bool) → ltb i j ≡ a → (b : Bool) → (a && (b && not (eqb (short net plan i j) 0))) ≡ true → (i < j) × (cond b (short net plan i j) 0 ≡ short net plan i j)
+      go true f true z = (ltb-true i j f, refl)
+      go true f false z = absurd (true≢false (sym z))
+      go false f b z = absurd (true≢false (sym z))
 
-pub pair-clash : (g s w t v : ℕ) → g < 255 → t ≤ s + w - 1 + g → s ≤ t + v - 1 + g → true ≡ pairClose g s w t v
-unfolding pairClose
-pair-clash g s w t v l h k = rw (lt-ltb g 255 l, le-ltb (s + w - 1 + g) t h, le-ltb (t + v - 1 + g) s k)
+  pub close-before : j ≤ i → tooClose net plan i j ≡ false
+  unfolding tooClose
+  close-before l = rw (le-ltb i j l)

@@ -6,13 +6,13 @@ use mathlib.Core.List.{List}
 use native.Mathlib.Omega.{arith}
 use Rattle.rules.specs.Tables.{at, cell, Lent}
 use Rattle.rules.specs.Limits.{Network}
-use Rattle.rules.specs.Plan.{Net, netOf, Conflict, Valid}
-use Rattle.rules.specs.Numbers.{square, clashFault}
+use Rattle.rules.specs.Plan.{Net, netOf, Conflict, Valid, short, tooClose}
+use Rattle.rules.specs.Numbers.{noFault, clashFault}
 use Rattle.plan_laws.specs.Good.{Good}
-use Rattle.table_laws.specs.Faults.{refuse-not, refuse-clear}
+use Rattle.table_laws.specs.Scans.{pair-none, pair-not}
+use Rattle.table_laws.specs.Faults.{square-none, square-clear}
 use Rattle.plan_laws.specs.Bound.{Within}
 use Rattle.plan_laws.specs.Judge.{judged-valid, valid-judged}
-use Rattle.table_laws.specs.Limits.{clear-of}
 
 -- a network within the limits has what the theorems ask
 pub network-good : (n : ℕ) (lent : Lent) → Network n lent → Good (netOf lent) n
@@ -27,9 +27,12 @@ network-bounds n lent w = record { narrow = λ k l. w .width k l .1; near = λ i
 
 -- 8
 pub clash-valid : (n : ℕ) (net : Net) (starts : List ℕ) → ((k : ℕ) → k < n → net .low k ≤ at starts k) → clashFault n net starts .number ≡ 0 → Valid net n (at starts)
-unfolding clashFault square
-clash-valid n net starts lows z = judged-valid net (at starts) n lows (refuse-clear _ 8 _ (omega arith) z)
+unfolding clashFault
+clash-valid n net starts lows z =
+    judged-valid net (at starts) n lows (pair-none _ n (square-clear 8 (tooClose net (at starts)) (short net (at starts)) n (omega arith) z))
 
-pub valid-clash : (n : ℕ) (net : Net) (starts : List ℕ) → Valid net n (at starts) → clashFault n net starts .number ≡ 0
-unfolding clashFault square
-valid-clash n net starts v = clear-of (refuse-not _ 8 _ (valid-judged net (at starts) n v))
+pub valid-clash : (n : ℕ) (net : Net) (starts : List ℕ) → ((k : ℕ) → k < n → 1 ≤ net .width k) → Valid net n (at starts)
+    → clashFault n net starts ≡ noFault
+unfolding clashFault
+valid-clash n net starts wide v =
+    square-none 8 (tooClose net (at starts)) (short net (at starts)) n (pair-not _ n (valid-judged net (at starts) n wide v))

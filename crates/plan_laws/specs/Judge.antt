@@ -3,13 +3,14 @@
 use Prim.Native.Nat.{ℕ, _+_, _-_, _≤_, _<_}
 use mathlib.Core.Path.{_≡_, refl}
 use mathlib.Core.Logic.{_⊎_, inl, inr}
-use mathlib.Core.Bool.{Bool, true, false, not, _||_, _&&_, true≢false}
+use mathlib.Core.Bool.{Bool, true, false, not, _&&_}
 use native.Mathlib.Omega.{arith}
 use native.Mathlib.Decide.{decLt}
-use lib.Dec.{ltb}
-use borrow.Author.Tests.{ltb-true, lt-ltb}
+use lib.Dec.{ltb, eqb}
+use borrow.Author.Tests.{ltb-true, lt-ltb, eq-eqb, eqb-true, not-false}
 use Rattle.rules.specs.Scan.{foundPair, least}
-use Rattle.rules.specs.Plan.{Net, Conflict, inConflict, end, Clear, isClear, Valid, tooClose, between, setDistance, Published}
+use Rattle.rules.specs.Plan.{Net, Conflict, inConflict, end, Clear, Valid, short, tooClose, between, setDistance, Published}
+use Rattle.plan_laws.specs.Short.{zero-clear, clear-zero}
 use Rattle.table_laws.specs.Scans.{pair-none, pair-not, least-le, least-ge}
 
 module _ (net : Net) (p : ℕ → ℕ) where
@@ -18,37 +19,27 @@ module _ (net : Net) (p : ℕ → ℕ) where
   pub quiet-clear : (i j : ℕ) → i < j → Conflict net i j → tooClose net p i j ≡ false → Clear net p i j ⊎ Clear net p j i
   unfolding tooClose
   quiet-clear i j h c e =
-      go (isClear net p i j) refl (isClear net p j i) refl (rw (lt-ltb i j h, lt-ltb (net .guard i j) 255 c) at e)
-    where
-      go : (a : Bool) → isClear net p i j ≡ a → (b : Bool) → isClear net p j i ≡ b → not (a || b) ≡ false → Clear net p i j ⊎ Clear net p j i
-      go true f b g z = inl (ltb-true _ _ f)
-      go false f true g z = inr (ltb-true _ _ g)
-      go false f false g z = absurd (true≢false z)
+      zero-clear net p i j h (eqb-true _ 0 (not-false _ (rw (lt-ltb i j h, lt-ltb (net .guard i j) 255 c) at e)))
 
-  pub clear-quiet : (i j : ℕ) → (i < j → Conflict net i j → Clear net p i j ⊎ Clear net p j i) → tooClose net p i j ≡ false
+  pub clear-quiet : (i j : ℕ) → 1 ≤ net .width i → 1 ≤ net .width j → (i < j → Conflict net i j → Clear net p i j ⊎ Clear net p j i)
+      → tooClose net p i j ≡ false
   unfolding tooClose
-  clear-quiet i j h = go (ltb i j) refl (inConflict net i j) refl
+  clear-quiet i j wi wj h = go (ltb i j) refl (inConflict net i j) refl
     where
-      clears : Clear net p i j ⊎ Clear net p j i → (isClear net p i j || isClear net p j i) ≡ true
-      clears (inl x) = rw (lt-ltb _ _ x)
-      clears (inr x) = rw (lt-ltb (end net j (p j) + net .guard j i) (p i) x) (or-true (isClear net p i j))
-        where
-          or-true : (b : Bool) → (b || true) ≡ true
-          or-true true = refl
-          or-true false = refl
-
-      go : (a : Bool) → ltb i j ≡ a → (b : Bool) → inConflict net i j ≡ b → (a && (b && not (isClear net p i j || isClear net p j i))) ≡ false
+      go : (a : Bool) → ltb i j ≡ a → (b : Bool) → inConflict net i j ≡ b → (a && (b && not (eqb (short net p i j) 0))) ≡ false
       go false e b f = refl
       go true e false f = refl
-      go true e true f = rw (clears (h (ltb-true i j e) (ltb-true _ _ f)))
+      go true e true f =
+          let l = ltb-true i j e in
+          rw (eq-eqb (short net p i j) 0 (clear-zero net p i j l wi wj (h l (ltb-true _ _ f))))
 
   -- no pair is too close exactly where the plan is valid
   pub judged-valid : (n : ℕ) → ((k : ℕ) → k < n → net .low k ≤ p k) → foundPair (tooClose net p) n ≡ false → Valid net n p
   judged-valid n lows e =
       record { lows = lows; apart = λ i j h l c. quiet-clear i j h c (pair-not (tooClose net p) n e i j (omega arith) l) }
 
-  pub valid-judged : (n : ℕ) → Valid net n p → foundPair (tooClose net p) n ≡ false
-  valid-judged n v = pair-none (tooClose net p) n (λ i j h l. clear-quiet i j (λ lt c. v .apart i j lt l c))
+  pub valid-judged : (n : ℕ) → ((k : ℕ) → k < n → 1 ≤ net .width k) → Valid net n p → foundPair (tooClose net p) n ≡ false
+  valid-judged n wide v = pair-none (tooClose net p) n (λ i j h l. clear-quiet i j (wide i h) (wide j l) (λ lt c. v .apart i j lt l c))
 
   -- 001's set distance of a pair is above its guard exactly where one is clear of the other
   distance-ge : (i j x : ℕ) → 1 ≤ net .width i → 1 ≤ net .width j

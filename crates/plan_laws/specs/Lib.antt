@@ -7,6 +7,7 @@ pub mod Good
 pub mod Plans
 pub mod Heights
 pub mod Bound
+pub mod Short
 pub mod Judge
 pub mod Fits
 -- what an answer of 0 means

@@ -5,8 +5,8 @@ use mathlib.Core.Bool.{Bool, true, false, cond}
 use native.Mathlib.Omega.{arith}
 use lib.Dec.{ltb}
 use borrow.Author.Tests.{ltb-true, lt-ltb, le-ltb}
-use Rattle.rules.specs.Plan.{Net, Conflict}
-use Rattle.rules.specs.Packing.{past, reach, lowest}
+use Rattle.rules.specs.Plan.{Net, Conflict, past}
+use Rattle.rules.specs.Packing.{reach, lowest}
 use Rattle.table_laws.specs.Count.{each-suc}
 use Rattle.plan_laws.specs.Pack.{Monotone, Local}
 

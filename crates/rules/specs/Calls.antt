@@ -7,6 +7,7 @@ use lib.ListN.{length, drop}
 use lib.Dec.{eqb}
 use Rattle.rules.specs.declared.Fault.{Fault}
 use Rattle.rules.specs.declared.Packed.{Packed}
+use Rattle.rules.specs.declared.Pressed.{Pressed}
 use Rattle.rules.specs.declared.Sided.{Sided}
 use Rattle.rules.specs.declared.Planned.{Planned}
 use Rattle.rules.specs.declared.Floored.{Floored}
@@ -35,11 +36,11 @@ left answer tables = record { answer = answer; tables = tables }
 unfoldable pub unless : {A : Type 0} → Fault → (Fault → A) → A → A
 unless f refused result = cond (eqb (f .number) 0) result (refused f)
 
--- judge(n, widths, guards, starts): nothing beside number and place
+-- judge(n, widths, guards, starts): nothing beside number, place and how many slots short
 unfoldable pub judging : ℕ → Lent → List ℕ → Fault
 judging n lent starts = judgeFault n lent starts
 
--- pack(n, widths, guards, order, starts), which writes the starts; so does pressing
+-- pack(n, widths, guards, order, starts), which writes the starts
 unfoldable pub refusedPacked : List ℕ → Fault → Left Packed (List ℕ)
 refusedPacked starts f = left (record { number = f .number; place = f .place; highest = 0 }) starts
 
@@ -51,11 +52,17 @@ packing n lent order starts =
     unless (packFault n lent order starts) (refusedPacked starts)
     (donePacked (netOf lent) n (packed (lowest (netOf lent)) (at order) starts n))
 
--- press(n, widths, guards, starts)
-unfoldable pub pressing : ℕ → Lent → List ℕ → Left Packed (List ℕ)
+-- press(n, widths, guards, starts), which writes the starts
+unfoldable pub refusedPressed : List ℕ → Fault → Left Pressed (List ℕ)
+refusedPressed starts f = left (record { number = f .number; place = f .place; short = f .short; highest = 0 }) starts
+
+unfoldable pub donePressed : Net → ℕ → List ℕ → Left Pressed (List ℕ)
+donePressed net n starts = left (record { number = 0; place = 0; short = 0; highest = highest net (at starts) n }) starts
+
+unfoldable pub pressing : ℕ → Lent → List ℕ → Left Pressed (List ℕ)
 pressing n lent starts =
-    unless (judgeFault n lent starts) (refusedPacked starts)
-    (donePacked (netOf lent) n (pressed (netOf lent) n starts))
+    unless (judgeFault n lent starts) (refusedPressed starts)
+    (donePressed (netOf lent) n (pressed (netOf lent) n starts))
 
 -- two_sides(n, widths, guards, order), which writes the order
 unfoldable pub siding : ℕ → Lent → List ℕ → Left Sided (List ℕ)

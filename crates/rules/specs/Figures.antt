@@ -5,11 +5,12 @@ use mathlib.Core.Path.{_≡_, refl}
 use mathlib.Core.List.{List, [], _∷_, _++_}
 use lib.ListN.{take, set, replicate}
 use Rattle.rules.specs.declared.Packed.{Packed}
+use Rattle.rules.specs.declared.Pressed.{Pressed}
 use Rattle.rules.specs.declared.Planned.{Planned}
 use Rattle.rules.specs.declared.Fault.{Fault}
 use Rattle.rules.specs.Tables.{at, cell, cleared, Lent, lend}
 use Rattle.rules.specs.Scan.{first, found, firstRow, foundPair, largest, least, sum}
-use Rattle.rules.specs.Plan.{netOf, highest, tooClose}
+use Rattle.rules.specs.Plan.{netOf, highest, isLower, short, tooClose}
 use Rattle.rules.specs.Packing.{placed, reach, lowest, packed, height}
 use Rattle.rules.specs.Pressing.{picked, choose, arranged, pressed}
 use Rattle.rules.specs.Sides.{touches, opposite, marks, isHigh, sameMark, hasSides, twoSided, lowSide}
@@ -19,7 +20,7 @@ use Rattle.rules.specs.Text.{bytes, then, word, isDigit, isLabelByte, ru
 use Rattle.rules.specs.Sheet.{isRow, find, bytesFrom, putRow, follow, lines, lastField, countLine, pathLine, guardLine, pathMeans, pathStep, guardCell, guardMeans, guardStep, startMeans, startStep, counted, after, ended, startsPart, guardsPart, sheetFrom}
 use Rattle.rules.specs.Writing.{labelOf, badLabel, labelTwice, isPair, pairs, hasPlan, joinFrom, countText, pathText, guardText, pathsText, guardsText, startsText, sheetText}
 use Rattle.rules.specs.Numbers.{refuseIf, _orElse_, scan, square, countFault, sizeFault, orderFault, startFault, clashFault, sidesFault, roundsFault, listFault, networkFault, networkSizes, lentFault, planSizes, judgeFault, packFault, twoSidesFault, planFault, improveFault, floorFault, labelSizes, sheetSizes, writeFault}
-use Rattle.rules.specs.Calls.{Left, unless, judging, refusedPacked, donePacked, packing, pressing, siding, refusedPlanned, donePlanned, doneImproved, improving, donePlan, planning, flooring, readOutcome, reading, writing}
+use Rattle.rules.specs.Calls.{Left, unless, judging, refusedPacked, donePacked, packing, refusedPressed, donePressed, pressing, siding, refusedPlanned, donePlanned, doneImproved, improving, donePlan, planning, flooring, readOutcome, reading, writing}
 use Rattle.rules.specs.Program.{refusalText, plannedText, printed}
 
 -- a guard table with the guard g of i and j, in both cells
@@ -44,11 +45,14 @@ three a b c = a ∷ b ∷ c ∷ replicate 125 0
 packedRow : Left Packed (List ℕ) → List ℕ
 packedRow r = r .answer .number ∷ r .answer .place ∷ r .answer .highest ∷ take 3 (r .tables)
 
+pressedRow : Left Pressed (List ℕ) → List ℕ
+pressedRow r = r .answer .number ∷ r .answer .place ∷ r .answer .short ∷ r .answer .highest ∷ take 3 (r .tables)
+
 plannedRow : Left Planned (List ℕ × List ℕ) → List ℕ
 plannedRow r = r .answer .number ∷ r .answer .place ∷ r .answer .highest ∷ r .answer .kept ∷ take 3 (r .tables .0) ++ take 3 (r .tables .1)
 
 judgedRow : Fault → List ℕ
-judgedRow r = r .number ∷ r .place ∷ []
+judgedRow r = r .number ∷ r .place ∷ r .short ∷ []
 
 packT : List ℕ → List ℕ
 packT order = packedRow (packing 3 netT order (three 0 0 0))
@@ -70,7 +74,7 @@ figures :
     ∷ packT (three 2 1 0)
     ∷ packT (three 1 0 2)
     ∷ (take 3 greedyT ++ packT greedyT)
-    ∷ packedRow (pressing 3 netT (three 20 10 30))
+    ∷ pressedRow (pressing 3 netT (three 20 10 30))
     ∷ (siding 3 netT (three 0 0 0) .answer .number ∷ [])
     ∷ (draws 3 1 ++ plannedRow (improving 3 netT (three 0 2 1) (three 0 0 0) 1 1))
     ∷ (judgeTwo 1 4 ++ judgeTwo 1 3)
@@ -81,15 +85,31 @@ figures :
     ∷ (0 ∷ 0 ∷ 12 ∷ 11 ∷ 6 ∷ 1 ∷ [])
     ∷ (0 ∷ 0 ∷ 10 ∷ 6 ∷ 1 ∷ 8 ∷ [])
     ∷ (0 ∷ 2 ∷ 1 ∷ 0 ∷ 0 ∷ 11 ∷ 1 ∷ 8 ∷ 3 ∷ [])
-    ∷ (0 ∷ 0 ∷ 10 ∷ 6 ∷ 1 ∷ 8 ∷ [])
+    ∷ (0 ∷ 0 ∷ 0 ∷ 10 ∷ 6 ∷ 1 ∷ 8 ∷ [])
     ∷ (9 ∷ [])
     ∷ (1015568748 ∷ 1586005467 ∷ 0 ∷ 1 ∷ 0 ∷ 0 ∷ 10 ∷ 1 ∷ 2 ∷ 0 ∷ 1 ∷ 4 ∷ 7 ∷ 1 ∷ [])
-    ∷ (0 ∷ 0 ∷ 8 ∷ 1 ∷ [])
+    ∷ (0 ∷ 0 ∷ 0 ∷ 8 ∷ 1 ∷ 1 ∷ [])
     ∷ (0x3C6EF35F ∷ 0x47502932 ∷ 0 ∷ 1 ∷ [])
     ∷ (9 ∷ [])
     ∷ []
-unfolding withGuard widthsT guardsT netT three packedRow plannedRow judgedRow packT greedyT judgeTwo draws cleared first found firstRow foundPair largest least sum highest tooClose placed reach lowest packed height picked choose arranged pressed touches opposite marks isHigh sameMark hasSides twoSided lowSide draw drawnPlace swapped stateAfter tried round rounds improved leastGuard floor refuseIf _orElse_ scan square countFault sizeFault orderFault startFault clashFault sidesFault roundsFault listFault networkFault networkSizes lentFault planSizes judgeFault packFault twoSidesFault planFault improveFault floorFault unless judging refusedPacked donePacked packing pressing siding refusedPlanned donePlanned doneImproved improving flooring
+unfolding withGuard widthsT guardsT netT three packedRow pressedRow plannedRow judgedRow packT greedyT judgeTwo draws cleared first found firstRow foundPair largest least sum highest isLower short tooClose placed reach lowest packed height picked choose arranged pressed touches opposite marks isHigh sameMark hasSides twoSided lowSide draw drawnPlace swapped stateAfter tried round rounds improved leastGuard floor refuseIf _orElse_ scan square countFault sizeFault orderFault startFault clashFault sidesFault roundsFault listFault networkFault networkSizes lentFault planSizes judgeFault packFault twoSidesFault planFault improveFault floorFault unless judging refusedPacked donePacked packing refusedPressed donePressed pressing siding refusedPlanned donePlanned doneImproved improving flooring
 figures = refl
+
+-- how many slots short plans of T are, judged: the two that start together, where the lower number is the
+-- lower path; the path of the lower number above the other; a guard of 0; two that start together in another
+-- row; and 7, which comes first and says none. Pressed, a plan of T stays as it was
+shorts :
+    (judgedRow (judging 3 netT (three 5 5 20))
+    ∷ judgedRow (judging 3 netT (three 9 5 20))
+    ∷ judgedRow (judging 3 netT (three 1 20 2))
+    ∷ judgedRow (judging 3 netT (three 1 10 10))
+    ∷ judgedRow (judging 3 netT (three 5 5 0))
+    ∷ pressedRow (pressing 3 netT (three 5 5 20))
+    ∷ [])
+    ≡ (8 ∷ 1 ∷ 3 ∷ []) ∷ (8 ∷ 1 ∷ 1 ∷ []) ∷ (8 ∷ 2 ∷ 1 ∷ []) ∷ (8 ∷ 130 ∷ 6 ∷ []) ∷ (7 ∷ 2 ∷ 0 ∷ [])
+    ∷ (8 ∷ 1 ∷ 3 ∷ 0 ∷ 5 ∷ 5 ∷ 20 ∷ []) ∷ []
+unfolding withGuard widthsT guardsT netT three pressedRow judgedRow cleared first found firstRow foundPair largest highest isLower short tooClose placed reach lowest packed picked choose arranged pressed refuseIf _orElse_ scan square countFault sizeFault startFault clashFault networkFault networkSizes lentFault judgeFault unless judging refusedPressed donePressed pressing
+shorts = refl
 
 -- the worked example of the plan program, and a sheet that is refused
 worked : List ℕ

@@ -8,14 +8,14 @@ use lib.Dec.{ltb, leb, eqb}
 use Rattle.rules.specs.declared.Fault.{Fault}
 use Rattle.rules.specs.Tables.{at, cell, Lent}
 use Rattle.rules.specs.Scan.{first, found, firstRow, foundPair}
-use Rattle.rules.specs.Plan.{Net, netOf, inConflict, tooClose}
+use Rattle.rules.specs.Plan.{Net, netOf, inConflict, short, tooClose}
 use Rattle.rules.specs.Packing.{placed}
 use Rattle.rules.specs.Sides.{hasSides}
 use Rattle.rules.specs.Writing.{badLabel, labelTwice, pairs, hasPlan, sheetText}
 
 infixr 20 _orElse_
 abbrev pub fault : ℕ → ℕ → Fault
-fault number place = record { number = number; place = place }
+fault number place = record { number = number; place = place; short = 0 }
 
 -- 0 with place 0: nothing is at fault
 abbrev pub noFault : Fault
@@ -29,13 +29,20 @@ refuseIf bad number place = cond bad (fault number place) noFault
 unfoldable pub _orElse_ : Fault → Fault → Fault
 a orElse b = cond (eqb (a .number) 0) b a
 
--- a test of paths or positions finds its first bad index below n, one of the square its first bad cell, row
--- by row
+-- a test of paths or positions finds its first bad index below n
 unfoldable pub scan : ℕ → (ℕ → Bool) → ℕ → Fault
 scan number bad n = refuseIf (found bad n) number (first bad n)
 
-unfoldable pub square : ℕ → (ℕ → ℕ → Bool) → ℕ → Fault
-square number bad n = refuseIf (foundPair bad n) number (cell (firstRow bad n) (first (bad (firstRow bad n)) n))
+-- one of the square its first bad cell, row by row, and how many slots short that cell is
+unfoldable pub square : ℕ → (ℕ → ℕ → Bool) → (ℕ → ℕ → ℕ) → ℕ → Fault
+square number bad lack n =
+    let i = firstRow bad n in
+    let j = first (bad i) n in
+    cond (foundPair bad n) (record { number = number; place = cell i j; short = lack i j }) noFault
+
+-- where no test of the slots is made, no cell is short
+abbrev pub nowhereShort : ℕ → ℕ → ℕ
+nowhereShort i j = 0
 
 abbrev pub outside : ℕ → ℕ → ℕ → Bool
 outside least most x = ltb x least || ltb most x
@@ -74,9 +81,9 @@ badStart starts k = outside 1 16384 (at starts k)
 unfoldable pub startFault : ℕ → List ℕ → Fault
 startFault n starts = scan 7 (badStart starts) n
 
--- 8: a conflicting pair that is too close, with its cell above the diagonal
+-- 8: a conflicting pair that is too close, with its cell above the diagonal and how many slots short it is
 unfoldable pub clashFault : ℕ → Net → List ℕ → Fault
-clashFault n net starts = square 8 (tooClose net (at starts)) n
+clashFault n net starts = square 8 (tooClose net (at starts)) (short net (at starts)) n
 
 -- 9: the network has no sides
 unfoldable pub sidesFault : ℕ → Net → Fault
@@ -101,8 +108,8 @@ networkSizes lent = sizeFault (lent .widths) 128 orElse sizeFault (lent .guards)
 -- 1, 3, 4, 5, in this order: all of 4 before 5
 unfoldable pub networkFault : ℕ → Lent → Fault
 networkFault n lent =
-    countFault n orElse scan 3 (badWidth (lent .widths)) n orElse square 4 (badGuard (lent .guards)) n
-    orElse square 5 (badMirror (lent .guards)) n
+    countFault n orElse scan 3 (badWidth (lent .widths)) n orElse square 4 (badGuard (lent .guards)) nowhereShort n
+    orElse square 5 (badMirror (lent .guards)) nowhereShort n
 
 -- RULES 18: 2, 1, 3, 4, 5 are the same for every call that is lent a network; sizes is 2 of the tables that
 -- it is lent beside the network

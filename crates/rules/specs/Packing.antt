@@ -1,5 +1,5 @@
 -- RULES 5. An order is the function from a position to the path that stands there. Assumes nothing.
-use Prim.Native.Nat.{ℕ, zero, suc, _+_, _-_, _≤_, _<_, max}
+use Prim.Native.Nat.{ℕ, zero, suc, _-_, _≤_, _<_, max}
 use mathlib.Core.Path.{_≡_}
 use mathlib.Core.Logic.{_≢_}
 use mathlib.Core.Bool.{Bool, cond}
@@ -8,7 +8,7 @@ use lib.ListN.{set}
 use lib.Dec.{eqb}
 use Rattle.rules.specs.Tables.{at}
 use Rattle.rules.specs.Scan.{found}
-use Rattle.rules.specs.Plan.{Net, inConflict, end, highest}
+use Rattle.rules.specs.Plan.{Net, inConflict, past, highest}
 
 -- path k is among the first m of an order
 unfoldable pub placed : (ℕ → ℕ) → ℕ → ℕ → Bool
@@ -32,10 +32,6 @@ Reversed order reverse n = (i : ℕ) → i < n → reverse i ≡ order (n - 1 - 
 -- a rule of packing: the start of path k, when the first m of an order stand as in a plan
 abbrev pub Rule : Type 0
 Rule = (ℕ → ℕ) → (ℕ → ℕ) → ℕ → ℕ → ℕ
-
--- end + guard + 1: the first slot past path j at s and its guard towards k
-abbrev pub past : Net → ℕ → ℕ → ℕ → ℕ
-past net j k s = end net j s + net .guard j k + 1
 
 -- what path j at s asks of path k: 0 where they are not in conflict
 unfoldable pub reach : Net → ℕ → ℕ → ℕ → ℕ

@@ -1,9 +1,9 @@
--- RULES 4: what a network is, the end of a path, the highest slot, and what makes a plan valid. A plan is the
--- function from a path to its start. Assumes nothing.
+-- RULES 4: what a network is, the end of a path, the highest slot, what makes a plan valid, and how many slots
+-- short a pair is. A plan is the function from a path to its start. Assumes nothing.
 use Prim.Native.Nat.{ℕ, _+_, _-_, _≤_, _<_, max}
 use mathlib.Core.Logic.{_⊎_}
-use mathlib.Core.Bool.{Bool, not, _||_, _&&_}
-use lib.Dec.{ltb}
+use mathlib.Core.Bool.{Bool, cond, not, _||_, _&&_}
+use lib.Dec.{ltb, eqb}
 use Rattle.rules.specs.Tables.{at, cell, Lent}
 use Rattle.rules.specs.Scan.{largest, least}
 
@@ -28,6 +28,10 @@ inConflict net i j = ltb (net .guard i j) 255
 abbrev pub end : Net → ℕ → ℕ → ℕ
 end net k s = s + net .width k - 1
 
+-- end + guard + 1: the first slot past path j at s and its guard towards k
+abbrev pub past : Net → ℕ → ℕ → ℕ → ℕ
+past net j k s = end net j s + net .guard j k + 1
+
 -- the highest slot in use
 unfoldable pub highest : Net → (ℕ → ℕ) → ℕ → ℕ
 highest net plan n = largest (λ k. end net k (plan k)) n
@@ -36,18 +40,24 @@ highest net plan n = largest (λ k. end net k (plan k)) n
 abbrev pub Clear : Net → (ℕ → ℕ) → ℕ → ℕ → Type 0
 Clear net plan i j = end net i (plan i) + net .guard i j < plan j
 
-abbrev pub isClear : Net → (ℕ → ℕ) → ℕ → ℕ → Bool
-isClear net plan i j = ltb (end net i (plan i) + net .guard i j) (plan j)
-
 -- RULES 4: of each conflicting pair one path is clear above the other. And no start is below the path's
 -- lowest
 pub record Valid (net : Net) (n : ℕ) (plan : ℕ → ℕ) : Type 0 where
   pub lows : (k : ℕ) → k < n → net .low k ≤ plan k
   pub apart : (i j : ℕ) → i < j → j < n → Conflict net i j → Clear net plan i j ⊎ Clear net plan j i
 
--- the pair of i and j, i<j, is in conflict and too close
+-- of two paths i is the lower: it starts lower, or they start together and its number is lower
+unfoldable pub isLower : (ℕ → ℕ) → ℕ → ℕ → Bool
+isLower plan i j = ltb (plan i) (plan j) || (eqb (plan i) (plan j) && ltb i j)
+
+-- how many slots short a pair is: end + guard + 1 of the lower path minus the start of the other, 0 if that is
+-- not positive
+unfoldable pub short : Net → (ℕ → ℕ) → ℕ → ℕ → ℕ
+short net plan i j = cond (isLower plan i j) (past net i j (plan i) - plan j) (past net j i (plan j) - plan i)
+
+-- the pair of i and j, i<j, is in conflict and too close: it is short of a slot at least
 unfoldable pub tooClose : Net → (ℕ → ℕ) → ℕ → ℕ → Bool
-tooClose net plan i j = ltb i j && (inConflict net i j && not (isClear net plan i j || isClear net plan j i))
+tooClose net plan i j = ltb i j && (inConflict net i j && not (eqb (short net plan i j) 0))
 
 -- The published rule (001, equations 2 and 3; RULES 4): path k's slots are one block, plan k + a for each a
 -- below its width, and the distance of a conflicting pair, the least |s - t| - 1 over a slot s of the one and

@@ -1,7 +1,7 @@
--- RULES 17 and 18 as statements: what each test finds at fault and where, the tests of each call in their
--- order, and the answer that such a row of tests gives. No test of the definitions is used here: these
--- words are what the definitions are held to. Assumes nothing.
-use Prim.Native.Nat.{ℕ, _≤_, _<_}
+-- RULES 17 and 18 as statements: what each test finds at fault and where, what 8 says beside its place, the
+-- tests of each call in their order, and the answer that such a row of tests gives. No test of the definitions
+-- is used here: these words are what the definitions are held to. Assumes nothing.
+use Prim.Native.Nat.{ℕ, _+_, _≤_, _<_}
 use mathlib.Core.Path.{_≡_}
 use mathlib.Core.Logic.{_≢_, _⊎_}
 use mathlib.Core.Bool.{Bool}
@@ -9,44 +9,53 @@ use mathlib.Core.List.{List, [], _∷_, _++_}
 use lib.ListN.{length}
 use Rattle.rules.specs.declared.Fault.{Fault}
 use Rattle.rules.specs.Tables.{at, cell, Lent, labelByte}
-use Rattle.rules.specs.Plan.{Net, netOf, Conflict, Clear}
+use Rattle.rules.specs.Plan.{Net, netOf, Conflict, past, Clear}
 use Rattle.rules.specs.Sides.{Split}
 use Rattle.rules.specs.Writing.{pairs, sheetText}
 use Rattle.rules.specs.Numbers.{noFault}
 
--- a test: its number, and that something is at fault at a place
+-- a test: its number, that something is at fault at a place, and that the place is short of so many slots
 pub record Test : Type 1 where
   pub number : ℕ
   pub Bad : ℕ → Type 0
+  pub Short : ℕ → ℕ → Type 0
 
 -- nothing is at fault
 abbrev pub Nowhere : Test → Type 0
 Nowhere t = (p : ℕ) → t .Bad p → ⊥
 
--- an answer is a test's refusal: its number is the test's, something is at fault at its place, and nothing
--- at a lower one
+-- an answer is a test's refusal: its number is the test's, something is at fault at its place and nothing at
+-- a lower one, and the place is short of as many slots as it says
 pub record Refusal (t : Test) (f : Fault) : Type 0 where
   pub some : 0 < f .number
   pub number : f .number ≡ t .number
   pub bad : t .Bad (f .place)
   pub first : (p : ℕ) → p < f .place → t .Bad p → ⊥
+  pub short : t .Short (f .place) (f .short)
 
 -- what tests give in their order: the refusal of the first that finds something at fault, and 0 with place
--- 0 where none does
+-- 0 and 0 slots short where none does
 unfoldable pub Gives : List Test → Fault → Type 0
 Gives [] f = f ≡ noFault
 Gives (t ∷ ts) f = Refusal t f ⊎ (Nowhere t × Gives ts f)
 
 -- The kinds of tests: one of a whole, with place 0; one of each index below n; one of each cell of the
--- first n rows and columns
+-- first n rows and columns. None but 8 says a number of slots: with every other it is 0
+abbrev pub Unsaid : ℕ → ℕ → Type 0
+Unsaid p s = s ≡ 0
+
 abbrev pub once : ℕ → Type 0 → Test
-once number Bad = record { number = number; Bad = λ p. (p ≡ 0) × Bad }
+once number Bad = record { number = number; Bad = λ p. (p ≡ 0) × Bad; Short = Unsaid }
 
 abbrev pub each : ℕ → ℕ → (ℕ → Type 0) → Test
-each number n Bad = record { number = number; Bad = λ p. (p < n) × Bad p }
+each number n Bad = record { number = number; Bad = λ p. (p < n) × Bad p; Short = Unsaid }
+
+-- a place is the cell of two paths of which something holds
+abbrev pub AtCell : ℕ → (ℕ → ℕ → Type 0) → ℕ → Type 0
+AtCell n Holds p = (i : ℕ) × (j : ℕ) × (i < n) × (j < n) × (p ≡ cell i j) × Holds i j
 
 abbrev pub cells : ℕ → ℕ → (ℕ → ℕ → Type 0) → Test
-cells number n Bad = record { number = number; Bad = λ p. (i : ℕ) × (j : ℕ) × (i < n) × (j < n) × (p ≡ cell i j) × Bad i j }
+cells number n Bad = record { number = number; Bad = AtCell n Bad; Short = Unsaid }
 
 abbrev pub Outside : ℕ → ℕ → ℕ → Type 0
 Outside least most x = (x < least) ⊎ (most < x)
@@ -80,8 +89,21 @@ abbrev pub startTest : ℕ → List ℕ → Test
 startTest n starts = each 7 n (λ k. Outside 1 16384 (at starts k))
 
 -- 8: a conflicting pair that is too close: neither path is clear of the other
+abbrev pub Clash : Net → (ℕ → ℕ) → ℕ → ℕ → Type 0
+Clash net plan i j = (i < j) × (Conflict net i j × ((Clear net plan i j ⊎ Clear net plan j i) → ⊥))
+
+-- and how many slots short it is, i<j: so many above its start the upper path would begin just past the lower
+-- one and their guard. The lower one is i where the two start together
+abbrev pub Lacks : Net → (ℕ → ℕ) → ℕ → ℕ → ℕ → Type 0
+Lacks net plan i j s =
+    ((plan i ≤ plan j) × (plan j + s ≡ past net i j (plan i))) ⊎ ((plan j < plan i) × (plan i + s ≡ past net j i (plan j)))
+
 abbrev pub clashTest : ℕ → Net → List ℕ → Test
-clashTest n net starts = cells 8 n (λ i j. (i < j) × (Conflict net i j × ((Clear net (at starts) i j ⊎ Clear net (at starts) j i) → ⊥)))
+clashTest n net starts = record {
+  number = 8;
+  Bad = AtCell n (Clash net (at starts));
+  Short = λ p s. AtCell n (λ i j. Lacks net (at starts) i j s) p;
+}
 
 -- 9: there is no way to put each path on a side so that every conflict is across
 abbrev pub sidesTest : ℕ → Net → Test

@@ -60,18 +60,29 @@ pub const REFUSED_LIST: usize = 15;
 
 pub const REFUSED_ROOM: usize = 16;
 
-// A refusal: its number and its place, 0 and 0 where nothing is at fault. Judging answers this alone.
+// A refusal: its number and its place, 0 and 0 where nothing is at fault, and how many slots short the pair
+// is that 8 refuses, 0 beside every other number. Judging answers this alone.
 #[repr(C)]
 pub struct Fault {
     pub number: usize,
     pub place: usize,
+    pub short: usize,
 }
 
-// Packing and pressing: the starts stand in their table.
+// Packing, which meets no 8: the starts stand in their table.
 #[repr(C)]
 pub struct Packed {
     pub number: usize,
     pub place: usize,
+    pub highest: usize,
+}
+
+// Pressing: the starts stand in their table. What may be refused by 8 answers number, place, short first.
+#[repr(C)]
+pub struct Pressed {
+    pub number: usize,
+    pub place: usize,
+    pub short: usize,
     pub highest: usize,
 }
 

@@ -15,6 +15,15 @@ use Rattle.rules.specs.Scan.{first, found, firstRow, foundPair}
 use Rattle.rules.specs.Numbers.{fault, noFault, refuseIf, _orElse_, scan, square, countFault, sizeFault, networkFault, networkSizes, lentFault}
 use Rattle.table_laws.specs.Scans.{first-at, found-at, found-none, found-not, pair-none, pair-not}
 
+-- a fault where a test says so, and else none: what its number says of the test
+told-clear : (bad : Bool) (f : Fault) → 0 < f .number → cond bad f noFault .number ≡ 0 → bad ≡ false
+told-clear true f p z = absurd (omega arith)
+told-clear false f p z = refl
+
+never-told : (bad : Bool) (f : Fault) (x : ℕ) → (x ≢ f .number) → cond bad f noFault .number ≡ x → x ≡ 0
+never-told true f x h e = absurd (h (sym e))
+never-told false f x h e = sym e
+
 -- one test
 pub refuse-bad : (bad : Bool) (m k : ℕ) → bad ≡ true → refuseIf bad m k ≡ fault m k
 unfolding refuseIf
@@ -26,8 +35,7 @@ refuse-not bad m k e = rw e
 
 pub refuse-clear : (bad : Bool) (m k : ℕ) → 0 < m → refuseIf bad m k .number ≡ 0 → bad ≡ false
 unfolding refuseIf
-refuse-clear true m k p z = absurd (omega arith)
-refuse-clear false m k p z = refl
+refuse-clear bad m k p z = told-clear bad (fault m k) p z
 
 -- two tests in their order
 pub or-first : (a b : Fault) → a .number ≢ 0 → a orElse b ≡ a
@@ -78,13 +86,15 @@ unfolding scan
 scan-clear m bad n p z = found-not bad n (refuse-clear (found bad n) m (first bad n) p z)
 
 -- a scan of the square. A search of row i answers j, the first bad cell, or n
-pub square-none : (m : ℕ) (bad : ℕ → ℕ → Bool) (n : ℕ) → ((i j : ℕ) → i < n → j < n → bad i j ≡ false) → square m bad n ≡ noFault
+pub square-none : (m : ℕ) (bad : ℕ → ℕ → Bool) (lack : ℕ → ℕ → ℕ) (n : ℕ) → ((i j : ℕ) → i < n → j < n → bad i j ≡ false)
+    → square m bad lack n ≡ noFault
 unfolding square
-square-none m bad n h = refuse-not (foundPair bad n) m _ (pair-none bad n h)
+square-none m bad lack n h = rw (pair-none bad n h)
 
-pub square-clear : (m : ℕ) (bad : ℕ → ℕ → Bool) (n : ℕ) → 0 < m → square m bad n .number ≡ 0 → (i j : ℕ) → i < n → j < n → bad i j ≡ false
+pub square-clear : (m : ℕ) (bad : ℕ → ℕ → Bool) (lack : ℕ → ℕ → ℕ) (n : ℕ) → 0 < m → square m bad lack n .number ≡ 0
+    → (i j : ℕ) → i < n → j < n → bad i j ≡ false
 unfolding square
-square-clear m bad n p z = pair-not bad n (refuse-clear (foundPair bad n) m _ p z)
+square-clear m bad lack n p z = pair-not bad n (told-clear (foundPair bad n) _ p z)
 
 pub row-hit : (bad : ℕ → ℕ → Bool) (n i j : ℕ) → j ≡ first (bad i) n → j < n → found (bad i) n ≡ true
 unfolding found
@@ -94,16 +104,18 @@ pub row-miss : (bad : ℕ → ℕ → Bool) (n i j : ℕ) → j ≡ first (bad i
 unfolding found
 row-miss bad n i j e l = le-ltb (first (bad i) n) n (omega arith)
 
-pub square-rows : (m : ℕ) (bad : ℕ → ℕ → Bool) (n : ℕ) → ((k : ℕ) → k < n → found (bad k) n ≡ false) → square m bad n ≡ noFault
-square-rows m bad n h = square-none m bad n (λ i j l g. found-not (bad i) n (h i l) j g)
+pub square-rows : (m : ℕ) (bad : ℕ → ℕ → Bool) (lack : ℕ → ℕ → ℕ) (n : ℕ) → ((k : ℕ) → k < n → found (bad k) n ≡ false)
+    → square m bad lack n ≡ noFault
+square-rows m bad lack n h = square-none m bad lack n (λ i j l g. found-not (bad i) n (h i l) j g)
 
-pub square-hit : (m : ℕ) (bad : ℕ → ℕ → Bool) (n i j : ℕ) → ((k : ℕ) → k < i → found (bad k) n ≡ false) → j ≡ first (bad i) n → j < n → i < n → fault m (cell i j) ≡ square m bad n
+pub square-hit : (m : ℕ) (bad : ℕ → ℕ → Bool) (lack : ℕ → ℕ → ℕ) (n i j : ℕ) → ((k : ℕ) → k < i → found (bad k) n ≡ false)
+    → j ≡ first (bad i) n → j < n → i < n → record { number = m; place = cell i j; short = lack i j } ≡ square m bad lack n
 unfolding square firstRow foundPair
-square-hit m bad n i j h e l g =
+square-hit m bad lack n i j h e l g =
     let hit = row-hit bad n i j e l in
     let row = first-at (λ i. found (bad i) n) n i h hit g in
     let some = found-at (λ i. found (bad i) n) n i g hit in
-    rw (row, ← e) (sym (refuse-bad (found (λ i. found (bad i) n) n) m (cell i j) some))
+    rw (row, ← e, some)
 
 -- 2
 pub size-good : (table : List ℕ) (size : ℕ) → length table ≡ size → noFault ≡ sizeFault table size
@@ -121,8 +133,11 @@ size-clear table size z = go (eqb (length table) size) refl z
 -- which numbers a test answers: a chain past tests that never answer x
 pub never-refuse : (bad : Bool) (m k x : ℕ) → (x ≢ m) → refuseIf bad m k .number ≡ x → x ≡ 0
 unfolding refuseIf
-never-refuse true m k x h e = absurd (h (sym e))
-never-refuse false m k x h e = sym e
+never-refuse bad m k x h = never-told bad (fault m k) x h
+
+never-square : (m : ℕ) (bad : ℕ → ℕ → Bool) (lack : ℕ → ℕ → ℕ) (n x : ℕ) → (x ≢ m) → square m bad lack n .number ≡ x → x ≡ 0
+unfolding square
+never-square m bad lack n x h = never-told (foundPair bad n) _ x h
 
 pub or-past : (a b : Fault) (x : ℕ) → (a .number ≡ x → x ≡ 0) → (a orElse b) .number ≡ x → (a .number ≡ 0) × (b .number ≡ x)
 unfolding _orElse_
@@ -144,11 +159,11 @@ unfolding networkSizes
 never-sizes lent x h = never-or _ _ x (never-size (lent .widths) 128 x h) (never-size (lent .guards) 16384 x h)
 
 pub never-network : (n : ℕ) (lent : Lent) (x : ℕ) → (x ≡ 0) ⊎ (6 ≤ x) → networkFault n lent .number ≡ x → x ≡ 0
-unfolding networkFault countFault scan square
+unfolding networkFault countFault scan
 never-network n lent x (inl e) = λ z. e
 never-network n lent x (inr l) =
     never-or _ _ x (never-refuse _ 1 0 x (λ e. omega arith)) (never-or _ _ x (never-refuse _ 3 _ x (λ e. omega arith))
-    (never-or _ _ x (never-refuse _ 4 _ x (λ e. omega arith)) (never-refuse _ 5 _ x (λ e. omega arith))))
+    (never-or _ _ x (never-square 4 _ _ n x (λ e. omega arith)) (never-square 5 _ _ n x (λ e. omega arith))))
 
 pub never-lent : (n : ℕ) (lent : Lent) (sizes : Fault) (x : ℕ) → (sizes .number ≡ x → x ≡ 0) → (x ≡ 0) ⊎ (6 ≤ x) → lentFault n lent sizes .number ≡ x → x ≡ 0
 unfolding lentFault

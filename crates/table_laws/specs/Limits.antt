@@ -15,7 +15,7 @@ use Rattle.rules.specs.Tables.{at, cell, Lent}
 use Rattle.rules.specs.Limits.{Network, Starts}
 use Rattle.rules.specs.Scan.{first}
 use Rattle.rules.specs.Packing.{placed, Order, Once}
-use Rattle.rules.specs.Numbers.{noFault, outside, countFault, badWidth, badGuard, badMirror, badEntry, orderFault, badStart, startFault, networkFault, networkSizes}
+use Rattle.rules.specs.Numbers.{nowhereShort, noFault, outside, countFault, badWidth, badGuard, badMirror, badEntry, orderFault, badStart, startFault, networkFault, networkSizes}
 use Rattle.table_laws.specs.Scans.{First, none, some, first-is}
 use Rattle.table_laws.specs.Faults.{refuse-not, refuse-clear, or-clear, or-none, scan-none, scan-clear, square-none, square-clear, size-good, size-clear}
 use Rattle.table_laws.specs.Orders.{placed-none, placed-not, place}
@@ -98,9 +98,9 @@ network-within n lent y z =
       widthsSize = size-clear (lent .widths) 128 (a .0);
       guardsSize = size-clear (lent .guards) 16384 (a .1);
       width = λ k l. outside-not 1 64 (at (lent .widths) k) (scan-clear 3 (badWidth (lent .widths)) n (omega arith) (c .0) k l);
-      guard = λ i j l g. guard-cell (lent .guards) i j (square-clear 4 (badGuard (lent .guards)) n (omega arith) (d .0) i j l g);
-      diagonal = λ k l. guard-diagonal (lent .guards) k (square-clear 4 (badGuard (lent .guards)) n (omega arith) (d .0) k k l l);
-      mirrored = mirror-all (lent .guards) n (square-clear 5 (badMirror (lent .guards)) n (omega arith) (d .1));
+      guard = λ i j l g. guard-cell (lent .guards) i j (square-clear 4 (badGuard (lent .guards)) nowhereShort n (omega arith) (d .0) i j l g);
+      diagonal = λ k l. guard-diagonal (lent .guards) k (square-clear 4 (badGuard (lent .guards)) nowhereShort n (omega arith) (d .0) k k l l);
+      mirrored = mirror-all (lent .guards) n (square-clear 5 (badMirror (lent .guards)) nowhereShort n (omega arith) (d .1));
     }
 
 pub within-network : (n : ℕ) (lent : Lent) → Network n lent → (networkSizes lent .number ≡ 0) × (networkFault n lent .number ≡ 0)
@@ -109,8 +109,8 @@ within-network n lent w = (
   or-none _ _ (clear-of (sym (size-good (lent .widths) 128 (w .widthsSize)))) (clear-of (sym (size-good (lent .guards) 16384 (w .guardsSize)))),
   or-none _ _ (clear-of (refuse-not (outside 1 128 n) 1 0 (outside-none 1 128 n (w .some) (w .few))))
       (or-none _ _ (clear-of (scan-none 3 (badWidth (lent .widths)) n (λ k l. outside-none 1 64 (at (lent .widths) k) (w .width k l .0) (w .width k l .1))))
-      (or-none _ _ (clear-of (square-none 4 (badGuard (lent .guards)) n (λ i j l g. guard-fits (lent .guards) i j (w .guard i j l g) (λ e. subst (λ x. at (lent .guards) (cell i x) ≡ 255) e (w .diagonal i l)))))
-      (clear-of (square-none 5 (badMirror (lent .guards)) n (λ i j l g. mirror-fits (lent .guards) i j (w .mirrored i j l g)))))),
+      (or-none _ _ (clear-of (square-none 4 (badGuard (lent .guards)) nowhereShort n (λ i j l g. guard-fits (lent .guards) i j (w .guard i j l g) (λ e. subst (λ x. at (lent .guards) (cell i x) ≡ 255) e (w .diagonal i l)))))
+      (clear-of (square-none 5 (badMirror (lent .guards)) nowhereShort n (λ i j l g. mirror-fits (lent .guards) i j (w .mirrored i j l g)))))),
 )
 
 -- 6 finds no fault exactly where the first n hold each of 0 to n-1 once

@@ -11,7 +11,7 @@ ghost use lib.ListN.{length};
 ghost use mathlib.Core.List.{List};
 ghost use Rattle.rules.specs.Tables.{at, cell, lend};
 ghost use Rattle.rules.specs.Scan.{first};
-ghost use Rattle.rules.specs.Numbers.{fault, noFault, refuseIf, scan, square, outside, countFault, networkSizes, planSizes, badGuard, badMirror, orderFault, startFault, networkFault, lentFault, packFault};
+ghost use Rattle.rules.specs.Numbers.{fault, noFault, refuseIf, scan, square, nowhereShort, outside, countFault, networkSizes, planSizes, badGuard, badMirror, orderFault, startFault, networkFault, lentFault, packFault};
 ghost use Rattle.tables.specs.Cells.{badCell};
 
 pub fn refused(number: usize, place: usize) -> Fault
@@ -20,6 +20,7 @@ pub fn refused(number: usize, place: usize) -> Fault
     Fault {
         number: number,
         place: place,
+        short: 0,
     }
 }
 
@@ -30,6 +31,7 @@ pub fn accepted() -> Fault
     Fault {
         number: 0,
         place: 0,
+        short: 0,
     }
 }
 
@@ -263,7 +265,7 @@ fn row_fault(n: usize, i: usize, guards: &[u8], mirror: bool) -> usize
 // never its mirror's.
 fn square_fault(n: usize, guards: &[u8], mirror: bool, number: usize) -> Fault
     requires { ⌜ (n ≤ 128) × (length (now guards) ≡ 16384) ⌝ }
-    ensures { λ r. ⌜ r ≡ square number (badCell mirror (now (guards .entry))) n ⌝ }
+    ensures { λ r. ⌜ r ≡ square number (badCell mirror (now (guards .entry))) nowhereShort n ⌝ }
 {
     let mut i: usize = 0;
     while i < n {

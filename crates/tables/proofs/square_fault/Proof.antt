@@ -6,6 +6,7 @@ use borrow.Author.Needs.{needs}
 use borrow.Author.Count.{below-none, below-more}
 use Rattle.rules.specs.Scan.{found}
 use Rattle.tables.specs.Cells.{badCell}
+use Rattle.rules.specs.Numbers.{nowhereShort}
 use Rattle.table_laws.specs.Faults.{square-rows, square-hit, row-miss}
 use Rattle.tables.proofs.square_fault.Statement.{statement}
 use Rattle.tables.proofs.square_fault.Tie as tie
@@ -35,7 +36,7 @@ returns : tie.Need-returns Inv-loop μ-loop
 returns c =
     let h = c .before .before .before .before in
     let a = h .before .before .args in
-    c .refused .ensures ∙ square-hit (a .number) (badCell (a .mirror) (a .guards .now)) (a .n) (h .loop .i) (c .before .before .row-fault .result) (h .loop .inv .1) (c .before .before .row-fault .ensures) (c .before .if1 .taken) (omega arith)
+    c .refused .ensures ∙ square-hit (a .number) (badCell (a .mirror) (a .guards .now)) nowhereShort (a .n) (h .loop .i) (c .before .before .row-fault .result) (h .loop .inv .1) (c .before .before .row-fault .ensures) (c .before .if1 .taken) (omega arith)
 
 add-i : tie.Need-add-i Inv-loop μ-loop
 add-i c = search needs
@@ -55,7 +56,7 @@ accepted-requires c κs = search needs
 returns-2 : tie.Need-returns-2 Inv-loop μ-loop
 returns-2 c =
     let a = c .before .before .before .before .args in
-    c .accepted .ensures ∙ sym (square-rows (a .number) (badCell (a .mirror) (a .guards .now)) (a .n) (λ k l. c .before .before .loop .inv .1 k (omega arith)))
+    c .accepted .ensures ∙ sym (square-rows (a .number) (badCell (a .mirror) (a .guards .now)) nowhereShort (a .n) (λ k l. c .before .before .loop .inv .1 k (omega arith)))
 
 pub square-fault-spec : {M : Type 1} → statement M
 square-fault-spec =
