@@ -7,7 +7,12 @@ use native.Mathlib.Omega.{arith}
 use native.Mathlib.Decide.{decLt}
 use lib.Dec.{ltb, eqb}
 use borrow.Author.Tests.{eq-eqb, ne-eqb, lt-ltb, le-ltb, ltb-true}
+use Rattle.rules.specs.declared.Fault.{Fault}
+use Rattle.rules.specs.Tables.{cell}
+use Rattle.rules.specs.Scan.{first}
 use Rattle.rules.specs.Plan.{Net, inConflict, short, tooClose}
+use Rattle.table_laws.specs.Scans.{found-first}
+use Rattle.table_laws.specs.Faults.{row-hit}
 use Rattle.plan_laws.specs.Short.{short-below, short-above}
 
 -- how many slots short two paths with guard g are, at s with width w and at t with width v; the first is the
@@ -56,3 +61,27 @@ module _ (net : Net) (plan : ℕ → ℕ) (i j : ℕ) where
   pub close-before : j ≤ i → tooClose net plan i j ≡ false
   unfolding tooClose
   close-before l = rw (le-ltb i j l)
+
+  -- 8, of a pair that is too close
+  pub clash-told : (x : ℕ) → tooClose net plan i j ≡ true → x ≡ lack net plan i j
+      → _≡_ {A = Fault} (record { number = 8; place = cell i j; short = x }) (record { number = 8; place = cell i j; short = short net plan i j })
+  clash-told x e h = rw (h, close-lack e .1)
+
+  -- a search of row i that answers j, below n
+  pub row-close : (n : ℕ) → j ≡ first (tooClose net plan i) n → j < n → (i < j) × (tooClose net plan i j ≡ true)
+  row-close n e l =
+      let z : tooClose net plan i j ≡ true = rw e (found-first (tooClose net plan i) n (row-hit (tooClose net plan) n i j e l) .1) in
+      (close-lack z .0, z)
+
+-- for the code: the three ways out of the test of a pair
+pub pair-free : (g s w t v : ℕ) → 255 ≤ g → 0 ≡ pairShort g s w t v
+unfolding pairShort
+pair-free g s w t v l = rw (le-ltb g 255 l)
+
+pub pair-above : (g s w t v : ℕ) → g < 255 → t < s → t + v - 1 + g + 1 - s ≡ pairShort g s w t v
+unfolding pairShort
+pair-above g s w t v l h = rw (lt-ltb g 255 l, lt-ltb t s h)
+
+pub pair-below : (g s w t v : ℕ) → g < 255 → s ≤ t → s + w - 1 + g + 1 - t ≡ pairShort g s w t v
+unfolding pairShort
+pair-below g s w t v l h = rw (lt-ltb g 255 l, le-ltb t s h)

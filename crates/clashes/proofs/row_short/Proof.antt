@@ -1,47 +1,56 @@
+use Prim.Native.Nat.{ℕ, _≤_, _<_, _-_}
+use mathlib.Core.Path.{_≡_}
+use mathlib.Core.Bool.{false}
+use native.Mathlib.Omega.{arith}
+use borrow.Author.Count.{below-more}
+use Rattle.rules.specs.Tables.{at, lend}
+use Rattle.rules.specs.Plan.{netOf, tooClose}
+use Rattle.plan_laws.specs.Clash.{lack-none, close-before}
+use borrow.Author.Needs.{needs}
 use Rattle.clashes.proofs.row_short.Statement.{statement}
 use Rattle.clashes.proofs.row_short.Tie as tie
-use Rattle.clashes.proofs.row_short.Reads as reads
-use Rattle.clashes.proofs.row_short.Lts as lts
-use Rattle.clashes.proofs.cell_short.Reads as cell-short-reads
-use Rattle.engine.proofs.larger.Reads as larger-reads
 
 abbrev Inv-loop : tie.InvT-loop
-Inv-loop n i widths guards starts most₀ j₀ most j = ?
+Inv-loop n i widths guards starts most₀ j₀ most j = (i < j) × ((j ≤ n) × ((k : ℕ) → k < j → most ≡ 0 → tooClose (netOf (lend widths guards)) (at starts) i k ≡ false))
 
 abbrev μ-loop : tie.MeasureT-loop
-μ-loop n i widths guards starts most₀ j₀ most j = ?
+μ-loop n i widths guards starts most₀ j₀ most j = n - j
 
--- src/lib.rt:79:24
 add-j : tie.Need-add-j Inv-loop μ-loop
-add-j c = ?
+add-j c = search needs
 
--- src/lib.rt:80:5
 loop-holds : tie.Need-loop-holds Inv-loop μ-loop
-loop-holds c = ?
+loop-holds c =
+    let a = c .before .before .before .args in
+    (search needs, (search needs, λ k l z. close-before (netOf (lend (a .widths .now) (a .guards .now))) (at (a .starts .now)) (a .i) k (omega arith)))
 
--- src/lib.rt:81:13
 cell-short-requires : tie.Need-cell-short-requires Inv-loop μ-loop
-cell-short-requires c κs = ?
+cell-short-requires c κs = search needs
 
--- src/lib.rt:82:9
 larger-requires : tie.Need-larger-requires Inv-loop μ-loop
-larger-requires c κs = ?
+larger-requires c κs = search needs
 
--- src/lib.rt:83:9
 add-j-2 : tie.Need-add-j-2 Inv-loop μ-loop
-add-j-2 c = ?
+add-j-2 c = search needs
 
--- src/lib.rt:80:5
 loop-less : tie.Need-loop-less Inv-loop μ-loop
-loop-less c = ?
+loop-less c = search needs
 
--- src/lib.rt:80:5
 loop-again : tie.Need-loop-again Inv-loop μ-loop
-loop-again c = ?
+loop-again c =
+    let h = c .before .before .before in
+    let a = h .before .before .before .before .args in
+    let net = netOf (lend (a .widths .now) (a .guards .now)) in (
+      search needs,
+      (
+        search needs,
+        below-more _ _ (λ k l z. h .loop .inv .1 .1 k l (omega arith))
+            (λ z. lack-none net (at (a .starts .now)) (a .i) (h .loop .j) (h .loop .inv .0) (omega (arith, c .before .cell-short .ensures))),
+      ),
+    )
 
--- src/lib.rt:73:1
 returns : tie.Need-returns Inv-loop μ-loop
-returns c = ?
+returns c z k l = c .before .loop .inv .1 .1 k (omega arith) z
 
 pub row-short-spec : {M : Type 1} → statement M
 row-short-spec =
