@@ -32,6 +32,7 @@ pub mod Words
 pub mod OnRefusing
 pub mod OnAccepting
 pub mod OnLeaving
+pub mod OnShort
 -- the sheet's lines and the program
 pub mod Forms
 pub mod OnLines

@@ -9,6 +9,7 @@ use native.Mathlib.Omega.{arith}
 use lib.ListN.{length}
 use Rattle.rules.specs.declared.Fault.{Fault}
 use Rattle.rules.specs.declared.Packed.{Packed}
+use Rattle.rules.specs.declared.Pressed.{Pressed}
 use Rattle.rules.specs.declared.Planned.{Planned}
 use Rattle.rules.specs.declared.Floored.{Floored}
 use Rattle.rules.specs.Tables.{at, cell, Lent}
@@ -17,7 +18,7 @@ use Rattle.rules.specs.Sides.{Split, isHigh, hasSides}
 use Rattle.rules.specs.Floor.{Clique}
 use Rattle.rules.specs.Writing.{sheetText}
 use Rattle.rules.specs.Numbers.{noFault, outside, refuseIf, scan, badMember, listFault, lentFault, floorFault}
-use Rattle.rules.specs.Calls.{Left, donePacked, packing, pressing, siding, donePlanned, doneImproved, improving, donePlan, planning, flooring, writing}
+use Rattle.rules.specs.Calls.{Left, donePacked, packing, donePressed, pressing, siding, donePlanned, doneImproved, improving, donePlan, planning, flooring, writing}
 use Rattle.table_laws.specs.Faults.{refuse-not, or-none, scan-none}
 use Rattle.table_laws.specs.Limits.{clear-of, outside-none}
 use Rattle.table_laws.specs.Chains.{clear-lent}
@@ -35,9 +36,9 @@ packing-exact n lent order starts =
     (packing-packable n lent order starts, λ p. ap (λ (r : Left Packed (List ℕ)). r .answer .number) (packable-packing n lent order starts p))
 
 pub pressing-exact : (n : ℕ) (lent : Lent) (starts : List ℕ) → (pressing n lent starts .answer .number ≡ 0) ↔ Judgeable n lent starts
-unfolding donePacked
+unfolding donePressed
 pressing-exact n lent starts =
-    (pressing-judgeable n lent starts, λ j. ap (λ (r : Left Packed (List ℕ)). r .answer .number) (judgeable-pressing n lent starts j))
+    (pressing-judgeable n lent starts, λ j. ap (λ (r : Left Pressed (List ℕ)). r .answer .number) (judgeable-pressing n lent starts j))
 
 -- the two-sided call: the tables being right, 0 exactly when some split into two sides exists
 pub siding-split : (n : ℕ) (lent : Lent) (order : List ℕ)

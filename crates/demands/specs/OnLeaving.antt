@@ -13,6 +13,7 @@ use lib.Seq.{ext-getD, getD-drop, getD-append-add}
 use lib.Dec.{eqb}
 use Rattle.rules.specs.declared.Fault.{Fault}
 use Rattle.rules.specs.declared.Packed.{Packed}
+use Rattle.rules.specs.declared.Pressed.{Pressed}
 use Rattle.rules.specs.declared.Sided.{Sided}
 use Rattle.rules.specs.declared.Planned.{Planned}
 use Rattle.rules.specs.declared.Floored.{Floored}
@@ -26,7 +27,7 @@ use Rattle.rules.specs.Sides.{isHigh, hasSides, twoSided}
 use Rattle.rules.specs.Planning.{Run, startNext, greedy, swapped, draw, drawnPlace, stateAfter, tried, round, rounds, improved}
 use Rattle.rules.specs.Writing.{sheetText}
 use Rattle.rules.specs.Numbers.{judgeFault, packFault, twoSidesFault, planFault, improveFault, floorFault, writeFault}
-use Rattle.rules.specs.Calls.{Left, unless, refusedPacked, donePacked, packing, pressing, siding, refusedPlanned, donePlanned, doneImproved, improving, donePlan, planning, flooring, writing}
+use Rattle.rules.specs.Calls.{Left, unless, refusedPacked, donePacked, packing, refusedPressed, donePressed, pressing, siding, refusedPlanned, donePlanned, doneImproved, improving, donePlan, planning, flooring, writing}
 use Rattle.table_laws.specs.Tables.{at-other, cleared-length}
 use Rattle.plan_laws.specs.Arranged.{arranged-order}
 use Rattle.plan_laws.specs.Improve.{place-below, draw-below, round-kept, round-left}
@@ -55,11 +56,11 @@ packing-refused n lent order starts z =
 
 pub pressing-refused : (n : ℕ) (lent : Lent) (starts : List ℕ) → pressing n lent starts .answer .number ≢ 0
     → (pressing n lent starts .answer .highest ≡ 0) × (pressing n lent starts .tables ≡ starts)
-unfolding pressing refusedPacked donePacked
+unfolding pressing refusedPressed donePressed
 pressing-refused n lent starts z =
-    let e = unless-is (λ (r : Left Packed (List ℕ)). r .answer .number) (judgeFault n lent starts) (refusedPacked starts)
-    (donePacked (netOf lent) n (pressed (netOf lent) n starts)) refl z in
-    (ap (λ (r : Left Packed (List ℕ)). r .answer .highest) e, ap (λ (r : Left Packed (List ℕ)). r .tables) e)
+    let e = unless-is (λ (r : Left Pressed (List ℕ)). r .answer .number) (judgeFault n lent starts) (refusedPressed starts)
+    (donePressed (netOf lent) n (pressed (netOf lent) n starts)) refl z in
+    (ap (λ (r : Left Pressed (List ℕ)). r .answer .highest) e, ap (λ (r : Left Pressed (List ℕ)). r .tables) e)
 
 pub siding-refused : (n : ℕ) (lent : Lent) (order : List ℕ) → siding n lent order .answer .number ≢ 0
     → (siding n lent order .answer .low ≡ 0) × (siding n lent order .tables ≡ order)
@@ -159,7 +160,7 @@ packing-past n lent order starts z =
 
 pub pressing-past : (n : ℕ) (lent : Lent) (starts : List ℕ) → pressing n lent starts .answer .number ≡ 0
     → KeptFrom n starts (pressing n lent starts .tables)
-unfolding donePacked pressed
+unfolding donePressed pressed
 pressing-past n lent starts z =
     let j = pressing-judgeable n lent starts z in
     let o = arranged-order (λ s i k. at starts k) n (cleared 128 0) (omega (arith, cleared-length 128 0, j .network .few)) n (omega arith) in

@@ -4,12 +4,12 @@ use mathlib.Core.Path.{_≡_, refl, sym, _∙_}
 use mathlib.Core.List.{List}
 use native.Mathlib.Omega.{arith}
 use lib.ListN.{length}
-use Rattle.rules.specs.declared.Packed.{Packed}
+use Rattle.rules.specs.declared.Pressed.{Pressed}
 use Rattle.rules.specs.Tables.{at, Lent}
 use Rattle.rules.specs.Plan.{Net, netOf, highest, Valid}
 use Rattle.rules.specs.Packing.{Reversed}
 use Rattle.rules.specs.Pressing.{pressed, SameSides}
-use Rattle.rules.specs.Calls.{Left, donePacked, packing, pressing}
+use Rattle.rules.specs.Calls.{Left, donePacked, packing, donePressed, pressing}
 use Rattle.plan_laws.specs.Good.{Good}
 use Rattle.demands.specs.Press.{press-valid, press-sides, press-least, press-length, press-agree, press-again}
 use Rattle.demands.specs.Mirror.{reverse-law}
@@ -22,7 +22,7 @@ module _ (n : ℕ) (lent : Lent) (starts : List ℕ) (zero-answer : pressing n l
   abbrev net : Net
   net = netOf lent
 
-  abbrev press : Left Packed (List ℕ)
+  abbrev press : Left Pressed (List ℕ)
   press = pressing n lent starts
 
   judgeable : Judgeable n lent starts
@@ -37,25 +37,25 @@ module _ (n : ℕ) (lent : Lent) (starts : List ℕ) (zero-answer : pressing n l
   room : n ≤ length starts
   room = omega (arith, judgeable .legal .size, judgeable .network .few)
 
-  press-is : press ≡ donePacked net n (pressed net n starts)
+  press-is : press ≡ donePressed net n (pressed net n starts)
   press-is = judgeable-pressing n lent starts judgeable
 
   -- a valid plan that keeps for each conflicting pair which is lower
   pub pressing-valid : Valid net n (at (press .tables))
-  unfolding donePacked
+  unfolding donePressed
   pressing-valid = rw press-is (press-valid net n good few starts room (judgeable .valid))
 
   pub pressing-sides : SameSides net n (at starts) (at (press .tables))
-  unfolding donePacked
+  unfolding donePressed
   pressing-sides = rw press-is (press-sides net n good few starts room (judgeable .valid))
 
   -- no valid plan of those sides puts any path lower
   pub pressing-least : (plan : ℕ → ℕ) → Valid net n plan → SameSides net n (at starts) plan → (k : ℕ) → k < n → at (press .tables) k ≤ plan k
-  unfolding donePacked
+  unfolding donePressed
   pressing-least plan v s = rw press-is (press-least net n good few starts room (judgeable .valid) plan v s)
 
   pub pressing-highest : press .answer .highest ≡ highest net (at (press .tables)) n
-  unfolding donePacked
+  unfolding donePressed
   pressing-highest = rw press-is
 
   -- so its highest slot is the least too
@@ -79,13 +79,13 @@ module _ (n : ℕ) (lent : Lent) (starts : List ℕ) (zero-answer : pressing n l
   }
     where
       size : length (press .tables) ≡ 128
-      size = unfold donePacked in (rw press-is (press-length net n good few starts room (judgeable .valid) ∙ judgeable .legal .size))
+      size = unfold donePressed in (rw press-is (press-length net n good few starts room (judgeable .valid) ∙ judgeable .legal .size))
 
   pub pressing-again : pressing n lent (press .tables) ≡ press
   pressing-again = judgeable-pressing n lent (press .tables) pressed-judgeable ∙ same
     where
-      same : donePacked net n (pressed net n (press .tables)) ≡ press
-      same = unfold donePacked in (rw (press-is, press-again net n good few starts room (judgeable .valid)))
+      same : donePressed net n (pressed net n (press .tables)) ≡ press
+      same = unfold donePressed in (rw (press-is, press-again net n good few starts room (judgeable .valid)))
 
 -- two valid plans with the same sides press to the same plan, of the same highest slot
 pub pressing-same : (n : ℕ) (lent : Lent) (starts others : List ℕ) → pressing n lent starts .answer .number ≡ 0 → pressing n lent others .answer .number ≡ 0
@@ -101,7 +101,7 @@ pressing-same n lent starts others y z s = (agree, tops)
     b = pressing-judgeable n lent others z
 
     agree : (k : ℕ) → k < n → at (pressing n lent starts .tables) k ≡ at (pressing n lent others .tables) k
-    agree k l = unfold donePacked in
+    agree k l = unfold donePressed in
         (rw (judgeable-pressing n lent starts a, judgeable-pressing n lent others b)
         (press-agree (netOf lent) n (network-good n lent (a .network)) (a .network .few) starts others
         (omega (arith, a .legal .size, a .network .few)) (omega (arith, b .legal .size, b .network .few)) (a .valid) (b .valid) s k l))

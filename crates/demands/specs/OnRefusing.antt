@@ -1,5 +1,6 @@
--- Demand 1: which number and which place each call answers. What its tests give in their order, in the
--- words of rules/specs/Refusing, is its number and place; and tests give one answer alone (`gives-one`).
+-- Demand 1: which number and which place each call answers, and how many slots short. What its tests give in
+-- their order, in the words of rules/specs/Refusing, is its answer; and tests give one answer alone
+-- (`gives-one`).
 -- Assumes nothing.
 use Prim.Native.Nat.{ℕ, _≤_, _<_}
 use mathlib.Core.Path.{_≡_, refl, sym, _∙_}
@@ -11,24 +12,25 @@ use lib.Dec.{ltb, eqb}
 use borrow.Author.Tests.{not-true, not-false}
 use Rattle.rules.specs.declared.Fault.{Fault}
 use Rattle.rules.specs.declared.Packed.{Packed}
+use Rattle.rules.specs.declared.Pressed.{Pressed}
 use Rattle.rules.specs.declared.Sided.{Sided}
 use Rattle.rules.specs.declared.Planned.{Planned}
 use Rattle.rules.specs.declared.Floored.{Floored}
 use Rattle.rules.specs.declared.SheetWritten.{SheetWritten}
 use Rattle.rules.specs.Tables.{at, Lent}
 use Rattle.rules.specs.Limits.{Network}
-use Rattle.rules.specs.Plan.{netOf, tooClose}
+use Rattle.rules.specs.Plan.{netOf, short, tooClose}
 use Rattle.rules.specs.Sides.{Split, isHigh, hasSides}
 use Rattle.rules.specs.Writing.{badLabel, labelTwice, pairs, hasPlan, sheetText}
-use Rattle.rules.specs.Numbers.{fault, noFault, refuseIf, _orElse_, scan, square, outside, countFault, sizeFault, badWidth, badGuard, badMirror, badEntry, orderFault, badStart, startFault, clashFault, sidesFault, roundsFault, badMember, listFault, networkFault, networkSizes, lentFault, planSizes, judgeFault, packFault, twoSidesFault, planFault, improveFault, floorFault, labelSizes, writeFault}
-use Rattle.rules.specs.Calls.{Left, judging, refusedPacked, donePacked, packing, pressing, siding, refusedPlanned, donePlanned, doneImproved, improving, donePlan, planning, flooring, writing}
-use Rattle.rules.specs.Refusing.{Test, Gives, sizeTest, countTest, widthTest, guardTest, mirrorTest, entryTest, startTest, clashTest, sidesTest, roundsTest, lengthTest, memberTest, labelTest, labelTwiceTest, pairsTest, writtenStartTest, roomTest, networkTests, lentTests, judgeTests, packTests, improveTests, planTests, twoSidesTests, floorTests, writeTests}
+use Rattle.rules.specs.Numbers.{fault, noFault, refuseIf, _orElse_, scan, square, nowhereShort, outside, countFault, sizeFault, badWidth, badGuard, badMirror, badEntry, orderFault, badStart, startFault, clashFault, sidesFault, roundsFault, badMember, listFault, networkFault, networkSizes, lentFault, planSizes, judgeFault, packFault, twoSidesFault, planFault, improveFault, floorFault, labelSizes, writeFault}
+use Rattle.rules.specs.Calls.{Left, judging, refusedPacked, donePacked, packing, refusedPressed, donePressed, pressing, siding, refusedPlanned, donePlanned, doneImproved, improving, donePlan, planning, flooring, writing}
+use Rattle.rules.specs.Refusing.{Test, Gives, Unsaid, Clash, sizeTest, countTest, widthTest, guardTest, mirrorTest, entryTest, startTest, clashTest, sidesTest, roundsTest, lengthTest, memberTest, labelTest, labelTwiceTest, pairsTest, writtenStartTest, roomTest, networkTests, lentTests, judgeTests, packTests, improveTests, planTests, twoSidesTests, floorTests, writeTests}
 use Rattle.table_laws.specs.Faults.{scan-clear}
 use Rattle.table_laws.specs.Chains.{count-clear, lent-clear}
 use Rattle.plan_laws.specs.Fits.{network-good}
 use Rattle.demands.specs.Finding.{found-sides, found-all}
-use Rattle.demands.specs.Tests.{Tells, refuse-gives, scan-gives, square-gives, gives-done, gives-append, unless-gives}
-use Rattle.demands.specs.Words.{tells-lt, tells-eq, tells-not, tells-outside, tells-guard, tells-mirror, tells-entry, tells-clash, tells-member, tells-start, tells-label, tells-twice}
+use Rattle.demands.specs.Tests.{told, Tells, refuse-gives, scan-gives, square-gives, gives-done, gives-append, Silent, silent-append, unless-gives, silent-gives}
+use Rattle.demands.specs.Words.{tells-lt, tells-eq, tells-not, tells-outside, tells-guard, tells-mirror, tells-entry, tells-clash, tells-short, tells-member, tells-start, tells-label, tells-twice}
 
 -- a test, and those after it
 then : (t : Test) (ts : List Test) (f g : Fault) → Gives (t ∷ []) f → (f .number ≡ 0 → Gives ts g) → Gives (t ∷ ts) (f orElse g)
@@ -49,9 +51,11 @@ network-gives n lent =
     then (countTest n) _ (countFault n) _ (refuse-gives 1 _ (outside 1 128 n) (omega arith) (tells-outside 1 128 n)) (λ z.
     then (widthTest n (lent .widths)) _ (scan 3 (badWidth (lent .widths)) n) _
     (scan-gives 3 n _ (badWidth (lent .widths)) (omega arith) (λ k l. tells-outside 1 64 (at (lent .widths) k))) (λ _.
-    then (guardTest n (lent .guards)) _ (square 4 (badGuard (lent .guards)) n) _
-    (square-gives 4 n _ (badGuard (lent .guards)) (omega arith) (count-clear n z .1) (λ i j l g. tells-guard (lent .guards) i j)) (λ _.
-    square-gives 5 n _ (badMirror (lent .guards)) (omega arith) (count-clear n z .1) (λ i j l g. tells-mirror (lent .guards) i j))))
+    then (guardTest n (lent .guards)) _ (square 4 (badGuard (lent .guards)) nowhereShort n) _
+    (square-gives 4 n _ Unsaid (badGuard (lent .guards)) nowhereShort (omega arith) (count-clear n z .1) (λ i j l g. tells-guard (lent .guards) i j)
+    (λ i j l g b. (refl, λ s e. e))) (λ _.
+    square-gives 5 n _ Unsaid (badMirror (lent .guards)) nowhereShort (omega arith) (count-clear n z .1) (λ i j l g. tells-mirror (lent .guards) i j)
+    (λ i j l g b. (refl, λ s e. e)))))
 
 -- 2, 1, 3, 4, 5, with 2 of the tables beside the network
 lent-gives : (n : ℕ) (lent : Lent) (ts : List Test) (sizes : Fault) → Gives ts sizes → Gives (lentTests n lent ts) (lentFault n lent sizes)
@@ -69,6 +73,17 @@ rounds-give : (rounds : ℕ) → Gives (roundsTest rounds ∷ []) (roundsFault r
 unfolding roundsFault
 rounds-give rounds = refuse-gives 10 _ (ltb 10000 rounds) (omega arith) (tells-lt 10000 rounds)
 
+-- no test but 8 says a number of slots
+pub unsaid : (p s : ℕ) → Unsaid p s → s ≡ 0
+unsaid p s e = e
+
+pub lent-unsaid : (n : ℕ) (lent : Lent) (sizes : List Test) → Silent sizes → Silent (lentTests n lent sizes)
+unfolding lentTests networkTests
+lent-unsaid n lent sizes h = (unsaid, (unsaid, silent-append sizes (networkTests n lent) h (unsaid, (unsaid, (unsaid, (unsaid, tt))))))
+
+lent-silent : (n : ℕ) (lent : Lent) (sizes more : List Test) → Silent sizes → Silent more → Silent (lentTests n lent sizes ++ more)
+lent-silent n lent sizes more a b = silent-append (lentTests n lent sizes) more (lent-unsaid n lent sizes a) b
+
 -- judging and pressing
 module _ (n : ℕ) (lent : Lent) (starts : List ℕ) where
   judge-gives : Gives (judgeTests n lent starts) (judgeFault n lent starts)
@@ -77,18 +92,26 @@ module _ (n : ℕ) (lent : Lent) (starts : List ℕ) where
       gives-append (lentTests n lent (sizeTest starts 128 ∷ [])) _ (lentFault n lent (sizeFault starts 128)) _
       (lent-gives n lent _ (sizeFault starts 128) (size-gives starts 128)) (λ z.
       then (startTest n starts) _ (scan 7 (badStart starts) n) _ (scan-gives 7 n _ (badStart starts) (omega arith) (λ k l. tells-outside 1 16384 (at starts k))) (λ _.
-      square-gives 8 n _ (tooClose (netOf lent) (at starts)) (omega arith) (lent-clear n lent (sizeFault starts 128) z .0 .few)
-      (λ i j l g. tells-clash (netOf lent) (at starts) i j)))
+      clashes (lent-clear n lent (sizeFault starts 128) z .0)))
+    where
+      clashes : Network n lent → Gives (clashTest n (netOf lent) starts ∷ []) (square 8 (tooClose (netOf lent) (at starts)) (short (netOf lent) (at starts)) n)
+      clashes w =
+          square-gives 8 n (Clash (netOf lent) (at starts)) _ (tooClose (netOf lent) (at starts)) (short (netOf lent) (at starts)) (omega arith) (w .few)
+          (λ i j l g. tells-clash (netOf lent) (at starts) i j (w .width i l .0) (w .width j g .0))
+          (λ i j l g e. tells-short (netOf lent) (at starts) i j (omega (arith, w .few)) e)
 
   pub judging-gives : Gives (judgeTests n lent starts) (judging n lent starts)
   unfolding judging
   judging-gives = judge-gives
 
-  pub pressing-gives : Gives (judgeTests n lent starts) (fault (pressing n lent starts .answer .number) (pressing n lent starts .answer .place))
-  unfolding pressing refusedPacked donePacked
+  abbrev press : Pressed
+  press = pressing n lent starts .answer
+
+  pub pressing-gives : Gives (judgeTests n lent starts) (told (press .number) (press .place) (press .short))
+  unfolding pressing refusedPressed donePressed
   pressing-gives =
-      unless-gives (λ (r : Left Packed (List ℕ)). r .answer .number) (λ (r : Left Packed (List ℕ)). r .answer .place)
-      (judgeTests n lent starts) (judgeFault n lent starts) (refusedPacked starts) _ refl refl refl refl judge-gives
+      unless-gives (λ (r : Left Pressed (List ℕ)). r .answer .number) (λ (r : Left Pressed (List ℕ)). r .answer .place) (λ (r : Left Pressed (List ℕ)). r .answer .short)
+      (judgeTests n lent starts) (judgeFault n lent starts) (refusedPressed starts) _ refl refl refl refl refl refl judge-gives
 
 -- packing, improving and planning
 module _ (n : ℕ) (lent : Lent) (order starts : List ℕ) where
@@ -101,11 +124,15 @@ module _ (n : ℕ) (lent : Lent) (order starts : List ℕ) where
       gives-append (lentTests n lent (sizeTest order 128 ∷ sizeTest starts 128 ∷ [])) _ (lentFault n lent (planSizes order starts)) _ sized-gives
       (λ z. scan-gives 6 n _ (badEntry n order) (omega arith) (λ k l. tells-entry n order k))
 
+  pack-silent : Silent (packTests n lent order starts)
+  unfolding packTests
+  pack-silent = lent-silent n lent (sizeTest order 128 ∷ sizeTest starts 128 ∷ []) (entryTest n order ∷ []) (unsaid, (unsaid, tt)) (unsaid, tt)
+
   pub packing-gives : Gives (packTests n lent order starts) (fault (packing n lent order starts .answer .number) (packing n lent order starts .answer .place))
   unfolding packing refusedPacked donePacked
   packing-gives =
-      unless-gives (λ (r : Left Packed (List ℕ)). r .answer .number) (λ (r : Left Packed (List ℕ)). r .answer .place)
-      (packTests n lent order starts) (packFault n lent order starts) (refusedPacked starts) _ refl refl refl refl pack-gives
+      silent-gives (λ (r : Left Packed (List ℕ)). r .answer .number) (λ (r : Left Packed (List ℕ)). r .answer .place)
+      (packTests n lent order starts) (packFault n lent order starts) (refusedPacked starts) _ refl refl refl refl pack-silent pack-gives
 
   module _ (seed rounds : ℕ) where
     abbrev improve : Left Planned (List ℕ × List ℕ)
@@ -114,8 +141,9 @@ module _ (n : ℕ) (lent : Lent) (order starts : List ℕ) where
     pub improving-gives : Gives (improveTests n lent order starts rounds) (fault (improve .answer .number) (improve .answer .place))
     unfolding improveTests improving improveFault refusedPlanned doneImproved donePlanned
     improving-gives =
-        unless-gives (λ (r : Left Planned (List ℕ × List ℕ)). r .answer .number) (λ (r : Left Planned (List ℕ × List ℕ)). r .answer .place)
+        silent-gives (λ (r : Left Planned (List ℕ × List ℕ)). r .answer .number) (λ (r : Left Planned (List ℕ × List ℕ)). r .answer .place)
         (packTests n lent order starts ++ (roundsTest rounds ∷ [])) (packFault n lent order starts orElse roundsFault rounds) (refusedPlanned order starts) _ refl refl refl refl
+        (silent-append (packTests n lent order starts) _ pack-silent (unsaid, tt))
         (gives-append (packTests n lent order starts) _ (packFault n lent order starts) _ pack-gives (λ z. rounds-give rounds))
 
     abbrev plan : Left Planned (List ℕ × List ℕ)
@@ -124,9 +152,9 @@ module _ (n : ℕ) (lent : Lent) (order starts : List ℕ) where
     pub planning-gives : Gives (planTests n lent order starts rounds) (fault (plan .answer .number) (plan .answer .place))
     unfolding planTests planning planFault refusedPlanned
     planning-gives =
-        unless-gives (λ (r : Left Planned (List ℕ × List ℕ)). r .answer .number) (λ (r : Left Planned (List ℕ × List ℕ)). r .answer .place)
+        silent-gives (λ (r : Left Planned (List ℕ × List ℕ)). r .answer .number) (λ (r : Left Planned (List ℕ × List ℕ)). r .answer .place)
         (planTests n lent order starts rounds) (planFault n lent order starts rounds) (refusedPlanned order starts) _ refl refl
-        (done .0) (done .1)
+        (done .0) (done .1) (lent-silent n lent _ (roundsTest rounds ∷ []) (unsaid, (unsaid, tt)) (unsaid, tt))
         (gives-append (lentTests n lent (sizeTest order 128 ∷ sizeTest starts 128 ∷ [])) _ (lentFault n lent (planSizes order starts)) _ sized-gives (λ z. rounds-give rounds))
       where
         either : (b : Bool) (x y : Left Planned (List ℕ × List ℕ)) → (x .answer .number ≡ 0) × (x .answer .place ≡ 0) → (y .answer .number ≡ 0) × (y .answer .place ≡ 0)
@@ -150,8 +178,9 @@ module _ (n : ℕ) (lent : Lent) (order : List ℕ) where
   pub siding-gives : Gives (twoSidesTests n lent order) (fault (siding n lent order .answer .number) (siding n lent order .answer .place))
   unfolding twoSidesTests siding twoSidesFault
   siding-gives =
-      unless-gives (λ (r : Left Sided (List ℕ)). r .answer .number) (λ (r : Left Sided (List ℕ)). r .answer .place)
+      silent-gives (λ (r : Left Sided (List ℕ)). r .answer .number) (λ (r : Left Sided (List ℕ)). r .answer .place)
       (twoSidesTests n lent order) (twoSidesFault n lent order) _ _ refl refl refl refl
+      (lent-silent n lent _ (sidesTest n (netOf lent) ∷ []) (unsaid, tt) (unsaid, tt))
       (gives-append (lentTests n lent (sizeTest order 128 ∷ [])) _ (lentFault n lent (sizeFault order 128)) _
       (lent-gives n lent _ (sizeFault order 128) (size-gives order 128)) (λ z. sides-give (lent-clear n lent (sizeFault order 128) z .0)))
 
@@ -160,7 +189,8 @@ pub flooring-gives : (n : ℕ) (lent : Lent) (list : List ℕ)
     → Gives (floorTests n lent list) (fault (flooring n lent list .number) (flooring n lent list .place))
 unfolding floorTests flooring floorFault listFault
 flooring-gives n lent list =
-    unless-gives (λ (r : Floored). r .number) (λ (r : Floored). r .place) (floorTests n lent list) (floorFault n lent list) _ _ refl refl refl refl
+    silent-gives (λ (r : Floored). r .number) (λ (r : Floored). r .place) (floorTests n lent list) (floorFault n lent list) _ _ refl refl refl refl
+    (lent-silent n lent [] (lengthTest list ∷ memberTest n (netOf lent) list ∷ []) tt (unsaid, (unsaid, tt)))
     (gives-append (lentTests n lent []) _ (lentFault n lent noFault) _ (lent-gives n lent [] noFault gives-done) (λ z.
     then (lengthTest list) _ (refuseIf (outside 1 8 (length list)) 15 0) _
     (refuse-gives 15 _ (outside 1 8 (length list)) (omega arith) (tells-outside 1 8 (length list))) (λ _.
@@ -189,7 +219,9 @@ module _ (n : ℕ) (labels : List ℕ) (lent : Lent) (starts text : List ℕ) wh
       (scan-gives 7 n _ (λ k. hasPlan n starts && badStart starts k) (omega arith) (λ k l. tells-start n starts k)) (λ _. room-gives)))))
 
   pub writing-gives : Gives (writeTests n labels lent starts text) (fault (writing n labels lent starts text .answer .number) (writing n labels lent starts text .answer .place))
-  unfolding writing
+  unfolding writing writeTests
   writing-gives =
-      unless-gives (λ (r : Left SheetWritten (List ℕ)). r .answer .number) (λ (r : Left SheetWritten (List ℕ)). r .answer .place)
-      (writeTests n labels lent starts text) (writeFault n labels lent starts text) _ _ refl refl refl refl write-gives
+      silent-gives (λ (r : Left SheetWritten (List ℕ)). r .answer .number) (λ (r : Left SheetWritten (List ℕ)). r .answer .place)
+      (writeTests n labels lent starts text) (writeFault n labels lent starts text) _ _ refl refl refl refl
+      (lent-silent n lent _ (labelTest n labels ∷ labelTwiceTest n labels ∷ pairsTest n (lent .guards) ∷ writtenStartTest n starts ∷ roomTest n labels lent starts text ∷ [])
+      (unsaid, (unsaid, tt)) (unsaid, (unsaid, (unsaid, (unsaid, (unsaid, tt)))))) write-gives

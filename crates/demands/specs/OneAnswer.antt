@@ -9,6 +9,7 @@ use denote.Ref.{RefT, now, ptr}
 use Rattle.rules.specs.Tables.{Lent}
 use Rattle.rules.specs.declared.Fault.{Fault}
 use Rattle.rules.specs.declared.Packed.{Packed}
+use Rattle.rules.specs.declared.Pressed.{Pressed}
 use Rattle.rules.specs.declared.Sided.{Sided}
 use Rattle.rules.specs.declared.Planned.{Planned}
 use Rattle.rules.specs.declared.Floored.{Floored}
@@ -26,7 +27,7 @@ pub pack-one : (n : ℕ) (lent : Lent) (order starts : List ℕ) {r s : Packed} 
     → left r t ≡ packing n lent order starts → left s u ≡ packing n lent order starts → (r ≡ s) × (t ≡ u)
 pack-one n lent order starts = one-answer
 
-pub press-one : (n : ℕ) (lent : Lent) (starts : List ℕ) {r s : Packed} {t u : List ℕ}
+pub press-one : (n : ℕ) (lent : Lent) (starts : List ℕ) {r s : Pressed} {t u : List ℕ}
     → left r t ≡ pressing n lent starts → left s u ≡ pressing n lent starts → (r ≡ s) × (t ≡ u)
 press-one n lent starts = one-answer
 

@@ -12,6 +12,7 @@ use lib.Dec.{ltb}
 use denote.Ref.{RefT, now}
 use Rattle.rules.specs.declared.Fault.{Fault}
 use Rattle.rules.specs.declared.Packed.{Packed}
+use Rattle.rules.specs.declared.Pressed.{Pressed}
 use Rattle.rules.specs.declared.Sided.{Sided}
 use Rattle.rules.specs.declared.Planned.{Planned}
 use Rattle.rules.specs.declared.Floored.{Floored}
@@ -52,7 +53,7 @@ judgingOf (n, lent, starts) = judging n lent starts
 abbrev pub packingOf : ℕ × Lent × Table × Table → Left Packed Table
 packingOf (n, lent, order, starts) = packing n lent order starts
 
-abbrev pub pressingOf : ℕ × Lent × Table → Left Packed Table
+abbrev pub pressingOf : ℕ × Lent × Table → Left Pressed Table
 pressingOf (n, lent, starts) = pressing n lent starts
 
 abbrev pub sidingOf : ℕ × Lent × Table → Left Sided Table
@@ -87,7 +88,7 @@ judge-refusing program = refusing-unfit (λ r. r .number) judgingOf program (3, 
 pub pack-refusing : (program : ℕ × Lent × Table × Table → Left Packed Table) → Meets program packingOf → Refuses (λ r. r .answer .number) program → ⊥
 pack-refusing program = refusing-unfit (λ r. r .answer .number) packingOf program (3, netT, three 0 1 2, three 0 0 0) (entry 1 answers)
 
-pub press-refusing : (program : ℕ × Lent × Table → Left Packed Table) → Meets program pressingOf → Refuses (λ r. r .answer .number) program → ⊥
+pub press-refusing : (program : ℕ × Lent × Table → Left Pressed Table) → Meets program pressingOf → Refuses (λ r. r .answer .number) program → ⊥
 press-refusing program = refusing-unfit (λ r. r .answer .number) pressingOf program (3, netT, three 20 10 30) (entry 2 answers)
 
 pub two-sides-refusing : (program : ℕ × Lent × Table → Left Sided Table) → Meets program sidingOf → Refuses (λ r. r .answer .number) program → ⊥
@@ -150,7 +151,7 @@ module _ (program : ℕ × Lent × Table × Table → Left Packed Table) (meets 
       start order z = sym (ap (λ (r : Left Packed Table). r .tables) (meets (givenOrder order))) ∙ same (givenOrder order) (packs order z)
 
 -- (3) A pressing that hands its plan back untouched wherever it answers
-pub untouched-unfit : (program : ℕ × Lent × Table → Left Packed Table) → Meets program pressingOf
+pub untouched-unfit : (program : ℕ × Lent × Table → Left Pressed Table) → Meets program pressingOf
     → ((n : ℕ) (lent : Lent) (starts : Table) → program (n, lent, starts) .answer .number ≡ 0 → program (n, lent, starts) .tables ≡ starts) → ⊥
 untouched-unfit program meets untouched =
     omega (arith, ap (λ (t : Table). at t 0) back, entry 4 differs, first-start)
@@ -160,8 +161,8 @@ untouched-unfit program meets untouched =
 
     back : pressing 3 netT (three 20 10 30) .tables ≡ three 20 10 30
     back =
-        sym (ap (λ (r : Left Packed Table). r .tables) pressed)
-        ∙ untouched 3 netT (three 20 10 30) (ap (λ (r : Left Packed Table). r .answer .number) pressed ∙ entry 2 answers)
+        sym (ap (λ (r : Left Pressed Table). r .tables) pressed)
+        ∙ untouched 3 netT (three 20 10 30) (ap (λ (r : Left Pressed Table). r .answer .number) pressed ∙ entry 2 answers)
 
     first-start : at (three 20 10 30) 0 ≡ 20
     first-start = unfold three in refl

@@ -5,7 +5,7 @@ use mathlib.Core.List.{List, [], _∷_}
 use lib.ListN.{replicate}
 use Rattle.rules.specs.Tables.{at, cleared, Lent, lend, clearedNetwork}
 use Rattle.rules.specs.Scan.{first, found, firstRow, foundPair, largest, least, sum}
-use Rattle.rules.specs.Plan.{highest, tooClose}
+use Rattle.rules.specs.Plan.{highest, isLower, short, tooClose}
 use Rattle.rules.specs.Packing.{placed, reach, lowest, packed, height}
 use Rattle.rules.specs.Pressing.{picked, choose, arranged, pressed}
 use Rattle.rules.specs.Sides.{touches, opposite, marks, isHigh, sameMark, hasSides, twoSided, lowSide}
@@ -15,7 +15,7 @@ use Rattle.rules.specs.Text.{bytes, then, word, isDigit, isLabelByte, run, labe
 use Rattle.rules.specs.Sheet.{isRow, find, bytesFrom, putRow, follow, lines, lastField, countLine, pathLine, guardLine, pathMeans, pathStep, guardCell, guardMeans, guardStep, startMeans, startStep, counted, after, ended, startsPart, guardsPart, sheetFrom}
 use Rattle.rules.specs.Writing.{labelOf, badLabel, labelTwice, isPair, pairs, hasPlan, joinFrom, countText, pathText, guardText, pathsText, guardsText, startsText, sheetText}
 use Rattle.rules.specs.Numbers.{refuseIf, _orElse_, scan, square, countFault, sizeFault, orderFault, startFault, clashFault, sidesFault, roundsFault, listFault, networkFault, networkSizes, lentFault, planSizes, judgeFault, packFault, twoSidesFault, planFault, improveFault, floorFault, labelSizes, sheetSizes, writeFault}
-use Rattle.rules.specs.Calls.{unless, judging, refusedPacked, donePacked, packing, pressing, siding, refusedPlanned, donePlanned, doneImproved, improving, donePlan, planning, flooring, readOutcome, reading, writing}
+use Rattle.rules.specs.Calls.{unless, judging, refusedPacked, donePacked, packing, refusedPressed, donePressed, pressing, siding, refusedPlanned, donePlanned, doneImproved, improving, donePlan, planning, flooring, readOutcome, reading, writing}
 use Rattle.rules.specs.Program.{refusalText, plannedText, printed}
 use Rattle.rules.specs.Better.{packedAnswer, comparing}
 use Rattle.rules.specs.Figures.{withGuard, widthsT, guardsT, netT, three}
@@ -50,11 +50,11 @@ pub answers :
     ∷ improving 3 netT (three 2 1 0) (three 0 0 0) 1 2 .answer .number
     ∷ [])
     ≡ 0 ∷ 0 ∷ 0 ∷ 0 ∷ 0 ∷ 0 ∷ 0 ∷ 0 ∷ 0 ∷ 0 ∷ 0 ∷ 0 ∷ 0 ∷ []
-unfolding netTwo netOne onePath labelA withGuard widthsT guardsT netT three cleared first found firstRow foundPair largest least sum highest tooClose placed reach lowest packed height picked choose arranged pressed touches opposite marks isHigh sameMark hasSides twoSided lowSide draw drawnPlace swapped stateAfter tried round rounds improved leastGuard floor refuseIf _orElse_ scan square countFault sizeFault orderFault startFault clashFault sidesFault roundsFault listFault networkFault networkSizes lentFault planSizes judgeFault packFault twoSidesFault planFault improveFault floorFault unless judging refusedPacked donePacked packing pressing siding refusedPlanned donePlanned doneImproved improving flooring then word isDigit isLabelByte run label isPlain valueFrom number spell numeral isRow find bytesFrom putRow follow lines lastField countLine pathLine guardLine pathMeans pathStep guardCell guardMeans guardStep startMeans startStep counted after ended startsPart guardsPart sheetFrom labelOf badLabel labelTwice isPair pairs hasPlan joinFrom countText pathText guardText pathsText guardsText startsText sheetText labelSizes sheetSizes writeFault donePlan planning readOutcome reading writing refusalText plannedText printed comparing packedAnswer
+unfolding netTwo netOne onePath labelA withGuard widthsT guardsT netT three cleared first found firstRow foundPair largest least sum highest isLower short tooClose placed reach lowest packed height picked choose arranged pressed touches opposite marks isHigh sameMark hasSides twoSided lowSide draw drawnPlace swapped stateAfter tried round rounds improved leastGuard floor refuseIf _orElse_ scan square countFault sizeFault orderFault startFault clashFault sidesFault roundsFault listFault networkFault networkSizes lentFault planSizes judgeFault packFault twoSidesFault planFault improveFault floorFault unless judging refusedPacked donePacked packing refusedPressed donePressed pressing siding refusedPlanned donePlanned doneImproved improving flooring then word isDigit isLabelByte run label isPlain valueFrom number spell numeral isRow find bytesFrom putRow follow lines lastField countLine pathLine guardLine pathMeans pathStep guardCell guardMeans guardStep startMeans startStep counted after ended startsPart guardsPart sheetFrom labelOf badLabel labelTwice isPair pairs hasPlan joinFrom countText pathText guardText pathsText guardsText startsText sheetText labelSizes sheetSizes writeFault donePlan planning readOutcome reading writing refusalText plannedText printed comparing packedAnswer
 answers = refl
 
 pub betterT : comparing 3 netT (three 0 1 2) (three 1 0 2) ≡ 2
-unfolding withGuard widthsT guardsT netT three cleared first found firstRow foundPair largest least sum highest tooClose placed reach lowest packed height picked choose arranged pressed touches opposite marks isHigh sameMark hasSides twoSided lowSide draw drawnPlace swapped stateAfter tried round rounds improved leastGuard floor refuseIf _orElse_ scan square countFault sizeFault orderFault startFault clashFault sidesFault roundsFault listFault networkFault networkSizes lentFault planSizes judgeFault packFault twoSidesFault planFault improveFault floorFault unless judging refusedPacked donePacked packing pressing siding refusedPlanned donePlanned doneImproved improving flooring then word isDigit isLabelByte run label isPlain valueFrom number spell numeral isRow find bytesFrom putRow follow lines lastField countLine pathLine guardLine pathMeans pathStep guardCell guardMeans guardStep startMeans startStep counted after ended startsPart guardsPart sheetFrom labelOf badLabel labelTwice isPair pairs hasPlan joinFrom countText pathText guardText pathsText guardsText startsText sheetText labelSizes sheetSizes writeFault donePlan planning readOutcome reading writing refusalText plannedText printed comparing packedAnswer
+unfolding withGuard widthsT guardsT netT three cleared first found firstRow foundPair largest least sum highest isLower short tooClose placed reach lowest packed height picked choose arranged pressed touches opposite marks isHigh sameMark hasSides twoSided lowSide draw drawnPlace swapped stateAfter tried round rounds improved leastGuard floor refuseIf _orElse_ scan square countFault sizeFault orderFault startFault clashFault sidesFault roundsFault listFault networkFault networkSizes lentFault planSizes judgeFault packFault twoSidesFault planFault improveFault floorFault unless judging refusedPacked donePacked packing refusedPressed donePressed pressing siding refusedPlanned donePlanned doneImproved improving flooring then word isDigit isLabelByte run label isPlain valueFrom number spell numeral isRow find bytesFrom putRow follow lines lastField countLine pathLine guardLine pathMeans pathStep guardCell guardMeans guardStep startMeans startStep counted after ended startsPart guardsPart sheetFrom labelOf badLabel labelTwice isPair pairs hasPlan joinFrom countText pathText guardText pathsText guardsText startsText sheetText labelSizes sheetSizes writeFault donePlan planning readOutcome reading writing refusalText plannedText printed comparing packedAnswer
 betterT = refl
 
 -- two orders of T pack to different highest slots and different starts, a plan of T is pressed to another,
@@ -69,5 +69,5 @@ pub differs :
     ∷ improving 3 netT (three 2 1 0) (three 0 0 0) 1 2 .answer .highest
     ∷ [])
     ≡ 12 ∷ 10 ∷ 1 ∷ 6 ∷ 6 ∷ 11 ∷ 10 ∷ []
-unfolding withGuard widthsT guardsT netT three cleared first found firstRow foundPair largest least sum highest tooClose placed reach lowest packed height picked choose arranged pressed touches opposite marks isHigh sameMark hasSides twoSided lowSide draw drawnPlace swapped stateAfter tried round rounds improved leastGuard floor refuseIf _orElse_ scan square countFault sizeFault orderFault startFault clashFault sidesFault roundsFault listFault networkFault networkSizes lentFault planSizes judgeFault packFault twoSidesFault planFault improveFault floorFault unless judging refusedPacked donePacked packing pressing siding refusedPlanned donePlanned doneImproved improving flooring then word isDigit isLabelByte run label isPlain valueFrom number spell numeral isRow find bytesFrom putRow follow lines lastField countLine pathLine guardLine pathMeans pathStep guardCell guardMeans guardStep startMeans startStep counted after ended startsPart guardsPart sheetFrom labelOf badLabel labelTwice isPair pairs hasPlan joinFrom countText pathText guardText pathsText guardsText startsText sheetText labelSizes sheetSizes writeFault donePlan planning readOutcome reading writing refusalText plannedText printed comparing packedAnswer
+unfolding withGuard widthsT guardsT netT three cleared first found firstRow foundPair largest least sum highest isLower short tooClose placed reach lowest packed height picked choose arranged pressed touches opposite marks isHigh sameMark hasSides twoSided lowSide draw drawnPlace swapped stateAfter tried round rounds improved leastGuard floor refuseIf _orElse_ scan square countFault sizeFault orderFault startFault clashFault sidesFault roundsFault listFault networkFault networkSizes lentFault planSizes judgeFault packFault twoSidesFault planFault improveFault floorFault unless judging refusedPacked donePacked packing refusedPressed donePressed pressing siding refusedPlanned donePlanned doneImproved improving flooring then word isDigit isLabelByte run label isPlain valueFrom number spell numeral isRow find bytesFrom putRow follow lines lastField countLine pathLine guardLine pathMeans pathStep guardCell guardMeans guardStep startMeans startStep counted after ended startsPart guardsPart sheetFrom labelOf badLabel labelTwice isPair pairs hasPlan joinFrom countText pathText guardText pathsText guardsText startsText sheetText labelSizes sheetSizes writeFault donePlan planning readOutcome reading writing refusalText plannedText printed comparing packedAnswer
 differs = refl

@@ -11,14 +11,17 @@ use lib.Dec.{ltb, leb, eqb}
 use borrow.Author.Tests.{ltb-true, ltb-false, leb-true, leb-false, eqb-true, eqb-false, not-true, not-false}
 use Rattle.rules.specs.Tables.{at, cell, labelByte}
 use Rattle.rules.specs.Scan.{first, found}
-use Rattle.rules.specs.Plan.{Net, Conflict, inConflict, Clear, tooClose}
+use Rattle.rules.specs.Plan.{Net, Conflict, inConflict, short, tooClose}
 use Rattle.rules.specs.Packing.{placed}
 use Rattle.rules.specs.Text.{isDigit, isLabelByte, run}
 use Rattle.rules.specs.Sheet.{isRow}
 use Rattle.rules.specs.Writing.{labelOf, badLabel, labelTwice, hasPlan}
 use Rattle.rules.specs.Numbers.{outside, badGuard, badMirror, badEntry, badStart, badMember}
-use Rattle.rules.specs.Refusing.{Outside, LabelByte, Labelled}
+use Rattle.rules.specs.Refusing.{Outside, Clash, Lacks, LabelByte, Labelled}
 use Rattle.table_laws.specs.Scans.{found-first, found-not}
+use Rattle.plan_laws.specs.Short.{short-lacks, lacks-short}
+use Rattle.plan_laws.specs.Clash.{close-parts}
+use Rattle.plan_laws.specs.Judge.{quiet-clear, clear-quiet}
 use Rattle.sheet_laws.specs.Rows.{row-same, row-bytes}
 use Rattle.sheet_laws.specs.Texts.{All}
 use Rattle.sheet_laws.specs.Writes.{label-short, label-in, label-past, bad-not, good-label}
@@ -81,11 +84,25 @@ tells-entry n order k =
     tells-or (tells-le n (at order k))
     (tells-found (λ i. at order i ≡ at order k) (λ i. eqb (at order i) (at order k)) k (λ i l. tells-eq (at order i) (at order k)))
 
-pub tells-clash : (net : Net) (plan : ℕ → ℕ) (i j : ℕ)
-    → Tells ((i < j) × (Conflict net i j × ((Clear net plan i j ⊎ Clear net plan j i) → ⊥))) (tooClose net plan i j)
-unfolding tooClose
-tells-clash net plan i j =
-    tells-and (tells-lt i j) (tells-and (tells-lt _ 255) (tells-not (tells-or (tells-lt _ (plan j)) (tells-lt _ (plan i)))))
+pub tells-clash : (net : Net) (plan : ℕ → ℕ) (i j : ℕ) → 1 ≤ net .width i → 1 ≤ net .width j → Tells (Clash net plan i j) (tooClose net plan i j)
+tells-clash net plan i j wi wj = record {
+  holds = λ e. let c = close-parts net plan i j e in (c .0, (c .1, λ clear. true≢false (sym e ∙ clear-quiet net plan i j wi wj (λ l k. clear))));
+  fails = λ e c. c .1 .1 (quiet-clear net plan i j (c .0) (c .1 .0) e);
+}
+
+-- and how many slots short it is, in a cell that is 8's
+pub tells-short : (net : Net) (plan : ℕ → ℕ) (i j : ℕ) → j < 128 → tooClose net plan i j ≡ true
+    → ((r : ℕ) × (c : ℕ) × (c < 128) × (cell i j ≡ cell r c) × Lacks net plan r c (short net plan i j))
+    × ((s : ℕ) → (r : ℕ) × (c : ℕ) × (c < 128) × (cell i j ≡ cell r c) × Lacks net plan r c s → s ≡ short net plan i j)
+tells-short net plan i j l e =
+    let x = close-parts net plan i j e in
+    ((i, j, l, refl, short-lacks net plan i j (x .0) (omega (arith, x .2))), λ s h. only (x .0) s (h .0) (h .1) (h .2) (h .3) (h .4))
+  where
+    only : i < j → (s r c : ℕ) → c < 128 → cell i j ≡ cell r c → Lacks net plan r c s → s ≡ short net plan i j
+    only lt s r c g f h =
+        let a : i ≡ r = omega arith in
+        let b : j ≡ c = omega arith in
+        lacks-short net plan i j lt s (rw (a, b) h)
 
 pub tells-member : (n : ℕ) (net : Net) (list : List ℕ) (k : ℕ)
     → Tells ((n ≤ at list k) ⊎ ((i : ℕ) × (i < k) × ((at list i ≡ at list k) ⊎ (Conflict net (at list i) (at list k) → ⊥)))) (badMember n net list k)

@@ -6,11 +6,11 @@ use mathlib.Core.Bool.{Bool, true, false, cond, not, _&&_, true≢false}
 use native.Mathlib.Omega.{arith}
 use native.Mathlib.Decide.{decLt}
 use lib.Dec.{ltb, eqb}
-use borrow.Author.Tests.{eq-eqb, ne-eqb, lt-ltb, le-ltb, ltb-true}
+use borrow.Author.Tests.{eq-eqb, ne-eqb, eqb-false, lt-ltb, le-ltb, ltb-true, not-true}
 use Rattle.rules.specs.declared.Fault.{Fault}
 use Rattle.rules.specs.Tables.{cell}
 use Rattle.rules.specs.Scan.{first}
-use Rattle.rules.specs.Plan.{Net, inConflict, short, tooClose}
+use Rattle.rules.specs.Plan.{Net, Conflict, inConflict, short, tooClose}
 use Rattle.table_laws.specs.Scans.{found-first}
 use Rattle.table_laws.specs.Faults.{row-hit}
 use Rattle.plan_laws.specs.Short.{short-below, short-above}
@@ -48,15 +48,20 @@ module _ (net : Net) (plan : ℕ → ℕ) (i j : ℕ) where
   pub lack-some : i < j → lack net plan i j ≢ 0 → tooClose net plan i j ≡ true
   lack-some l h = close-is ∙ rw (lt-ltb i j l, ne-eqb (lack net plan i j) 0 h)
 
-  -- where they are, i<j, it is the number that 8 says
-  pub close-lack : tooClose net plan i j ≡ true → (i < j) × (lack net plan i j ≡ short net plan i j)
-  unfolding tooClose lack
-  close-lack e = go (ltb i j) refl (inConflict net i j) e
+  -- where they are, i<j, in conflict, and it is the number that 8 says
+  pub close-parts : tooClose net plan i j ≡ true → (i < j) × Conflict net i j × (short net plan i j ≢ 0)
+  unfolding tooClose
+  close-parts e = go (ltb i j) refl (inConflict net i j) refl e
     where
-      go : (a : Bool) → ltb i j ≡ a → (b : Bool) → (a && (b && not (eqb (short net plan i j) 0))) ≡ true → (i < j) × (cond b (short net plan i j) 0 ≡ short net plan i j)
-      go true f true z = (ltb-true i j f, refl)
-      go true f false z = absurd (true≢false (sym z))
-      go false f b z = absurd (true≢false (sym z))
+      go : (a : Bool) → ltb i j ≡ a → (b : Bool) → inConflict net i j ≡ b → (a && (b && not (eqb (short net plan i j) 0))) ≡ true
+          → (i < j) × Conflict net i j × (short net plan i j ≢ 0)
+      go true f true g z = (ltb-true i j f, ltb-true _ _ g, eqb-false (short net plan i j) 0 (not-true _ z))
+      go true f false g z = absurd (true≢false (sym z))
+      go false f b g z = absurd (true≢false (sym z))
+
+  pub close-lack : tooClose net plan i j ≡ true → lack net plan i j ≡ short net plan i j
+  unfolding lack
+  close-lack e = rw (lt-ltb (net .guard i j) 255 (close-parts e .1))
 
   pub close-before : j ≤ i → tooClose net plan i j ≡ false
   unfolding tooClose
@@ -65,13 +70,13 @@ module _ (net : Net) (plan : ℕ → ℕ) (i j : ℕ) where
   -- 8, of a pair that is too close
   pub clash-told : (x : ℕ) → tooClose net plan i j ≡ true → x ≡ lack net plan i j
       → _≡_ {A = Fault} (record { number = 8; place = cell i j; short = x }) (record { number = 8; place = cell i j; short = short net plan i j })
-  clash-told x e h = rw (h, close-lack e .1)
+  clash-told x e h = rw (h, close-lack e)
 
   -- a search of row i that answers j, below n
   pub row-close : (n : ℕ) → j ≡ first (tooClose net plan i) n → j < n → (i < j) × (tooClose net plan i j ≡ true)
   row-close n e l =
       let z : tooClose net plan i j ≡ true = rw e (found-first (tooClose net plan i) n (row-hit (tooClose net plan) n i j e l) .1) in
-      (close-lack z .0, z)
+      (close-parts z .0, z)
 
 -- for the code: the three ways out of the test of a pair
 pub pair-free : (g s w t v : ℕ) → 255 ≤ g → 0 ≡ pairShort g s w t v

@@ -25,13 +25,14 @@ abbrev pub Nowhere : Test → Type 0
 Nowhere t = (p : ℕ) → t .Bad p → ⊥
 
 -- an answer is a test's refusal: its number is the test's, something is at fault at its place and nothing at
--- a lower one, and the place is short of as many slots as it says
+-- a lower one, and the place is short of as many slots as it says and of no other number
 pub record Refusal (t : Test) (f : Fault) : Type 0 where
   pub some : 0 < f .number
   pub number : f .number ≡ t .number
   pub bad : t .Bad (f .place)
   pub first : (p : ℕ) → p < f .place → t .Bad p → ⊥
   pub short : t .Short (f .place) (f .short)
+  pub only : (s : ℕ) → t .Short (f .place) s → s ≡ f .short
 
 -- what tests give in their order: the refusal of the first that finds something at fault, and 0 with place
 -- 0 and 0 slots short where none does
@@ -50,12 +51,9 @@ once number Bad = record { number = number; Bad = λ p. (p ≡ 0) × Bad; Short 
 abbrev pub each : ℕ → ℕ → (ℕ → Type 0) → Test
 each number n Bad = record { number = number; Bad = λ p. (p < n) × Bad p; Short = Unsaid }
 
--- a place is the cell of two paths of which something holds
-abbrev pub AtCell : ℕ → (ℕ → ℕ → Type 0) → ℕ → Type 0
-AtCell n Holds p = (i : ℕ) × (j : ℕ) × (i < n) × (j < n) × (p ≡ cell i j) × Holds i j
-
-abbrev pub cells : ℕ → ℕ → (ℕ → ℕ → Type 0) → Test
-cells number n Bad = record { number = number; Bad = AtCell n Bad; Short = Unsaid }
+abbrev pub cells : ℕ → ℕ → (ℕ → ℕ → Type 0) → (ℕ → ℕ → Type 0) → Test
+cells number n Bad Short =
+    record { number = number; Bad = λ p. (i : ℕ) × (j : ℕ) × (i < n) × (j < n) × (p ≡ cell i j) × Bad i j; Short = Short }
 
 abbrev pub Outside : ℕ → ℕ → ℕ → Type 0
 Outside least most x = (x < least) ⊎ (most < x)
@@ -74,11 +72,11 @@ widthTest n widths = each 3 n (λ k. Outside 1 64 (at widths k))
 
 -- 4: a cell that is neither a guard of 0 to 32 nor 255; on the diagonal all but 255
 abbrev pub guardTest : ℕ → List ℕ → Test
-guardTest n guards = cells 4 n (λ i j. (at guards (cell i j) ≢ 255) × ((i ≡ j) ⊎ (32 < at guards (cell i j))))
+guardTest n guards = cells 4 n (λ i j. (at guards (cell i j) ≢ 255) × ((i ≡ j) ⊎ (32 < at guards (cell i j)))) Unsaid
 
 -- 5: a cell above the diagonal that differs from its mirror
 abbrev pub mirrorTest : ℕ → List ℕ → Test
-mirrorTest n guards = cells 5 n (λ i j. (i < j) × (at guards (cell i j) ≢ at guards (cell j i)))
+mirrorTest n guards = cells 5 n (λ i j. (i < j) × (at guards (cell i j) ≢ at guards (cell j i))) Unsaid
 
 -- 6: an entry that is no path, or that comes a second time
 abbrev pub entryTest : ℕ → List ℕ → Test
@@ -92,18 +90,15 @@ startTest n starts = each 7 n (λ k. Outside 1 16384 (at starts k))
 abbrev pub Clash : Net → (ℕ → ℕ) → ℕ → ℕ → Type 0
 Clash net plan i j = (i < j) × (Conflict net i j × ((Clear net plan i j ⊎ Clear net plan j i) → ⊥))
 
--- and how many slots short it is, i<j: so many above its start the upper path would begin just past the lower
--- one and their guard. The lower one is i where the two start together
+-- and how many slots short it is, i<j: with so many added to its start the upper path begins just past the
+-- lower one and their guard. Where the two start together, i is the lower one
 abbrev pub Lacks : Net → (ℕ → ℕ) → ℕ → ℕ → ℕ → Type 0
 Lacks net plan i j s =
     ((plan i ≤ plan j) × (plan j + s ≡ past net i j (plan i))) ⊎ ((plan j < plan i) × (plan i + s ≡ past net j i (plan j)))
 
 abbrev pub clashTest : ℕ → Net → List ℕ → Test
-clashTest n net starts = record {
-  number = 8;
-  Bad = AtCell n (Clash net (at starts));
-  Short = λ p s. AtCell n (λ i j. Lacks net (at starts) i j s) p;
-}
+clashTest n net starts =
+    cells 8 n (Clash net (at starts)) (λ p s. (i : ℕ) × (j : ℕ) × (j < 128) × (p ≡ cell i j) × Lacks net (at starts) i j s)
 
 -- 9: there is no way to put each path on a side so that every conflict is across
 abbrev pub sidesTest : ℕ → Net → Test

@@ -1,0 +1,192 @@
+-- How many slots short a pair is (RULES 4), of any two paths and as judging and pressing answer. Assumes
+-- nothing.
+use Prim.Native.Nat.{ℕ, _+_, _-_, _≤_, _<_}
+use mathlib.Core.Path.{_≡_, refl, sym, ap, subst, _∙_}
+use mathlib.Core.Logic.{_≢_, _⊎_, inl, inr, _↔_}
+use mathlib.Core.Bool.{Bool, true, false, cond, not, _&&_}
+use mathlib.Core.List.{List, [], _∷_, _++_}
+use native.Mathlib.Omega.{arith}
+use native.Mathlib.Decide.{decLt}
+use lib.ListN.{length, set}
+use lib.Dec.{ltb, eqb}
+use borrow.Author.Tests.{lt-ltb, le-ltb, eq-eqb, ne-eqb}
+use Rattle.rules.specs.declared.Fault.{Fault}
+use Rattle.rules.specs.declared.Pressed.{Pressed}
+use Rattle.rules.specs.Tables.{at, cell, Lent}
+use Rattle.rules.specs.Limits.{Network, Starts}
+use Rattle.rules.specs.Plan.{Net, netOf, Conflict, past, Clear, isLower, short, tooClose, setDistance}
+use Rattle.rules.specs.Numbers.{noFault, _orElse_, scan, sizeFault, startFault, clashFault, lentFault, judgeFault}
+use Rattle.rules.specs.Calls.{Left, judging, refusedPressed, donePressed, pressing}
+use Rattle.rules.specs.Refusing.{Nowhere, Refusal, Gives, sizeTest, startTest, clashTest, lentTests, judgeTests}
+use Rattle.table_laws.specs.Tables.{at-same, at-other}
+use Rattle.table_laws.specs.Faults.{or-second, or-past, never-refuse, never-size, never-lent, size-clear}
+use Rattle.table_laws.specs.Limits.{starts-within}
+use Rattle.table_laws.specs.Chains.{lent-clear}
+use Rattle.plan_laws.specs.Short.{short-below, short-above, zero-clear, clear-zero}
+use Rattle.plan_laws.specs.Clash.{close-parts}
+use Rattle.plan_laws.specs.Judge.{clear-distance, distance-clear}
+use Rattle.demands.specs.Tests.{told, Squared, allRight, firstBad, squared, gives-one, silent-rest}
+use Rattle.demands.specs.OnRefusing.{unsaid, lent-unsaid, judging-gives, pressing-gives}
+
+-- of two paths i<j one is the lower, and the other the upper
+lower-below : (p : ℕ → ℕ) (i j : ℕ) → i < j → p i ≤ p j → isLower p i j ≡ true
+lower-below p i j l h = go (decLt (p i) (p j))
+  where
+    go : Dec (p i < p j) → isLower p i j ≡ true
+    go (yes x) = unfold isLower in (rw (lt-ltb (p i) (p j) x))
+    go (no x) = unfold isLower in (rw (le-ltb (p i) (p j) (omega arith), eq-eqb (p i) (p j) (omega arith), lt-ltb i j l))
+
+lower-above : (p : ℕ → ℕ) (i j : ℕ) → p j < p i → isLower p i j ≡ false
+unfolding isLower
+lower-above p i j h = rw (le-ltb (p i) (p j) (omega arith), ne-eqb (p i) (p j) (λ e. omega arith))
+
+unfoldable pub upper : (ℕ → ℕ) → ℕ → ℕ → ℕ
+upper plan i j = cond (isLower plan i j) j i
+
+-- what the number means, of any two paths of a network within the limits
+module _ (net : Net) (p : ℕ → ℕ) (i j : ℕ) (l : i < j) (wi : 1 ≤ net .width i) (wj : 1 ≤ net .width j) where
+  -- it is 0 exactly where the pair is clear, by RULES 4 and by 001's set distance
+  pub short-clear : (short net p i j ≡ 0) ↔ (Clear net p i j ⊎ Clear net p j i)
+  short-clear = (zero-clear net p i j l, clear-zero net p i j l wi wj)
+
+  pub short-distance : net .guard i j ≡ net .guard j i → (short net p i j ≡ 0) ↔ (net .guard i j < setDistance net p i j)
+  short-distance e = (
+    λ z. clear-distance net p i j wi wj (sym e) (zero-clear net p i j l z),
+    λ d. clear-zero net p i j l wi wj (distance-clear net p i j wi wj (sym e) d),
+  )
+
+  -- the upper path moved up by m is clear of the other exactly where m is so many or more. A plan q has it there
+  pub moved-clear : (q : ℕ → ℕ) (m : ℕ) → ((k : ℕ) → k ≢ upper p i j → q k ≡ p k) → q (upper p i j) ≡ p (upper p i j) + m
+      → (Clear net q i j ⊎ Clear net q j i) ↔ (short net p i j ≤ m)
+  moved-clear q m others up = go (decLt (p j) (p i))
+    where
+      below : (a b : ℕ) → (Clear net q a b → short net p i j ≤ m) → (Clear net q b a → short net p i j ≤ m) → Clear net q a b ⊎ Clear net q b a → short net p i j ≤ m
+      below a b f g (inl c) = f c
+      below a b f g (inr c) = g c
+
+      go : Dec (p j < p i) → (Clear net q i j ⊎ Clear net q j i) ↔ (short net p i j ≤ m)
+      go (yes x) =
+          let u : upper p i j ≡ i = unfold upper in (rw (lower-above p i j x)) in
+          let s = short-above net p i j x in
+          let a : q i ≡ p i + m = rw (← u) up in
+          let b : q j ≡ p j = others j (λ e. omega (arith, e ∙ u)) in
+          (below i j (λ c. absurd (omega arith)) (λ c. omega arith), λ h. inr (omega arith))
+      go (no x) =
+          let u : upper p i j ≡ j = unfold upper in (rw (lower-below p i j l (omega arith))) in
+          let s = short-below net p i j l (omega arith) in
+          let a : q j ≡ p j + m = rw (← u) up in
+          let b : q i ≡ p i = others i (λ e. omega (arith, e ∙ u)) in
+          (below i j (λ c. omega arith) (λ c. absurd (omega arith)), λ h. inl (omega arith))
+
+-- and the order in which the two are named makes no difference
+pub short-either : (net : Net) (p : ℕ → ℕ) (i j : ℕ) → i < j → short net p i j ≡ short net p j i
+short-either net p i j l = unfold short in (rw other (go (isLower p i j)))
+  where
+    other : isLower p j i ≡ not (isLower p i j)
+    other = side (decLt (p j) (p i))
+      where
+        side : Dec (p j < p i) → isLower p j i ≡ not (isLower p i j)
+        side (yes x) = rw (lower-above p i j x) (unfold isLower in (rw (lt-ltb (p j) (p i) x)))
+        side (no x) =
+            rw (lower-below p i j l (omega arith))
+            (unfold isLower in (rw (le-ltb (p j) (p i) (omega arith), le-ltb j i (omega arith)) (never (eqb (p j) (p i)))))
+          where
+            never : (b : Bool) → (b && false) ≡ false
+            never true = refl
+            never false = refl
+
+    go : (b : Bool) → cond b (past net i j (p i) - p j) (past net j i (p j) - p i) ≡ cond (not b) (past net j i (p j) - p i) (past net i j (p i) - p j)
+    go true = refl
+    go false = refl
+
+-- A table of starts in which the upper of two paths stands m slots higher
+unfoldable pub raised : List ℕ → ℕ → ℕ → ℕ → List ℕ
+raised starts i j m = let k = upper (at starts) i j in set starts k (at starts k + m)
+
+-- what an answer of 8 says: two conflicting paths, their cell, and by how many slots they are short: the upper
+-- one is clear of the other where it stands so many slots higher, or more, and with fewer it is not
+pub record Says (n : ℕ) (lent : Lent) (starts : List ℕ) (f : Fault) : Type 0 where
+  pub i : ℕ
+  pub j : ℕ
+  pub below : i < j
+  pub inside : j < n
+  pub conflict : Conflict (netOf lent) i j
+  pub place : f .place ≡ cell i j
+  pub short : f .short ≡ short (netOf lent) (at starts) i j
+  pub some : 0 < f .short
+  pub clears : (m : ℕ)
+      → (Clear (netOf lent) (at (raised starts i j m)) i j ⊎ Clear (netOf lent) (at (raised starts i j m)) j i) ↔ (f .short ≤ m)
+
+module _ (n : ℕ) (lent : Lent) (starts : List ℕ) where
+  abbrev net : Net
+  net = netOf lent
+
+  says : Network n lent → Starts n starts → Squared 8 (tooClose net (at starts)) (short net (at starts)) n
+      → clashFault n net starts .number ≡ 8 → Says n lent starts (clashFault n net starts)
+  unfolding clashFault
+  says w s (allRight h e) z = absurd (omega (arith, ap (λ (f : Fault). f .number) e))
+  says w s (firstBad i j l g b rows row e) z =
+      let c = close-parts net (at starts) i j b in
+      rw e (record {
+        i = i;
+        j = j;
+        below = c .0;
+        inside = g;
+        conflict = c .1;
+        place = refl;
+        short = refl;
+        some = omega (arith, c .2);
+        clears = λ m. unfold raised in
+            (moved-clear net (at starts) i j (c .0) (w .width i l .0) (w .width j g .0) (at (set starts (top i j) (at starts (top i j) + m))) m
+            (λ k h. at-other starts (top i j) (at starts (top i j) + m) k h) (at-same starts (top i j) (at starts (top i j) + m) (room i j l g)));
+      })
+    where
+      top : ℕ → ℕ → ℕ
+      top i j = upper (at starts) i j
+
+      room : (i j : ℕ) → i < n → j < n → upper (at starts) i j < length starts
+      room i j l g = unfold upper in (go (isLower (at starts) i j))
+        where
+          go : (b : Bool) → cond b j i < length starts
+          go true = omega (arith, w .few, s .size)
+          go false = omega (arith, w .few, s .size)
+
+  -- in an answer of 8 it is the number of that very cell, and above 0; beside every other number it is 0
+  pub judging-short : judging n lent starts .number ≡ 8 → Says n lent starts (judging n lent starts)
+  unfolding judging judgeFault
+  judging-short z =
+      let a = or-past _ _ 8 (never-lent n lent (sizeFault starts 128) 8 (never-size starts 128 8 (λ e. omega arith)) (inr (omega arith))) z in
+      let b = or-past _ _ 8 not-start (a .1) in
+      let w = lent-clear n lent (sizeFault starts 128) (a .0) in
+      let s = starts-within n starts (size-clear starts 128 (w .1)) (b .0) in
+      rw (or-second (lentFault n lent (sizeFault starts 128)) (startFault n starts orElse clashFault n net starts) (a .0), or-second (startFault n starts) (clashFault n net starts) (b .0))
+      (says (w .0) s (squared 8 (tooClose net (at starts)) (short net (at starts)) n) (b .1))
+    where
+      not-start : startFault n starts .number ≡ 8 → _≡_ {A = ℕ} 8 0
+      not-start e = unfold startFault scan in (never-refuse _ 7 _ 8 (λ q. omega arith) e)
+
+  pub judging-silent : judging n lent starts .number ≢ 8 → judging n lent starts .short ≡ 0
+  unfolding Gives judgeTests
+  judging-silent h =
+      go (silent-rest (lentTests n lent (sizeTest starts 128 ∷ [])) (startTest n starts ∷ clashTest n net starts ∷ []) (judging n lent starts)
+      (lent-unsaid n lent (sizeTest starts 128 ∷ []) (unsaid, tt)) (judging-gives n lent starts))
+    where
+      go : (judging n lent starts .short ≡ 0) ⊎ (Refusal (startTest n starts) (judging n lent starts)
+          ⊎ (Nowhere (startTest n starts) × (Refusal (clashTest n net starts) (judging n lent starts) ⊎ (Nowhere (clashTest n net starts) × (judging n lent starts ≡ noFault)))))
+          → judging n lent starts .short ≡ 0
+      go (inl e) = e
+      go (inr (inl r)) = r .short
+      go (inr (inr (x, inl r))) = absurd (h (r .number))
+      go (inr (inr (x, inr (y, e)))) = ap (λ (a : Fault). a .short) e
+
+  -- pressing refuses as judging does: the same number, the same place, as many slots short
+  pub pressing-judges : told (pressing n lent starts .answer .number) (pressing n lent starts .answer .place) (pressing n lent starts .answer .short) ≡ judging n lent starts
+  pressing-judges = gives-one (judgeTests n lent starts) _ _ (pressing-gives n lent starts) (judging-gives n lent starts)
+
+  pub pressing-short : pressing n lent starts .answer .number ≡ 8
+      → Says n lent starts (told (pressing n lent starts .answer .number) (pressing n lent starts .answer .place) (pressing n lent starts .answer .short))
+  pressing-short z = rw pressing-judges (judging-short (sym (ap (λ (f : Fault). f .number) pressing-judges) ∙ z))
+
+  pub pressing-silent : pressing n lent starts .answer .number ≢ 8 → pressing n lent starts .answer .short ≡ 0
+  pressing-silent h =
+      ap (λ (f : Fault). f .short) pressing-judges ∙ judging-silent (λ z. h (ap (λ (f : Fault). f .number) pressing-judges ∙ z))
