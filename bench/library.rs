@@ -3,12 +3,12 @@
 use nesbrunka::{DONE, PATHS};
 
 use crate::networks::Network;
-use crate::rules::{Improved, Order, Starts};
+use crate::rules::{Improved, Judgement, Order, Starts};
 use crate::sheet::Tables;
 
-pub fn judge(net: &Network, starts: &Starts) -> (usize, usize) {
+pub fn judge(net: &Network, starts: &Starts) -> Judgement {
     let r = nesbrunka::judge(net.n, &net.widths, &net.guards, starts);
-    (r.number, r.place)
+    (r.number, r.place, r.short)
 }
 
 pub fn pack(net: &Network, order: &Order, starts: &mut Starts) -> usize {

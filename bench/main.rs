@@ -65,10 +65,10 @@ fn judging(net: &Network, times: usize) -> f64 {
     for plan in &plans {
         let mut close = *plan;
         close[0] = close[net.n - 1];
-        assert!(library::judge(net, plan) == (0, 0) && rules::judge(net, plan) == (0, 0));
+        assert!(library::judge(net, plan) == (0, 0, 0) && rules::judge(net, plan) == (0, 0, 0));
         assert!(library::judge(net, &close) == rules::judge(net, &close), "the judgements differ");
     }
-    let all = |judge: fn(&Network, &Starts) -> (usize, usize)| {
+    let all = |judge: fn(&Network, &Starts) -> rules::Judgement| {
         for plan in (0..times).flat_map(|_| &plans) {
             black_box(judge(black_box(net), black_box(plan)));
         }

@@ -6,31 +6,39 @@ use crate::networks::Network;
 
 pub type Starts = [u16; PATHS];
 pub type Order = [u8; PATHS];
+pub type Judgement = (usize, usize, usize);
 pub type Packer = fn(&Network, &Order, &mut Starts) -> usize;
 
-/// The tests of judging by plain scans, each from the lowest index: number and place.
-pub fn judge(net: &Network, starts: &Starts) -> (usize, usize) {
+/// The tests of judging by plain scans, each from the lowest index: number, place, slots short.
+pub fn judge(net: &Network, starts: &Starts) -> Judgement {
     let n = net.n;
     let guard = |i: usize, j: usize| net.guards[PATHS * i + j];
     if !(1..=PATHS).contains(&n) {
-        return (1, 0);
+        return (1, 0, 0);
     }
     if let Some(k) = net.widths[..n].iter().position(|width| !(1..=64).contains(width)) {
-        return (3, k);
+        return (3, k, 0);
     }
     let bad = |i, j| guard(i, j) != NO_CONFLICT && (i == j || guard(i, j) > 32);
     if let Some(cell) = first_cell(n, |_| 0, bad) {
-        return (4, cell);
+        return (4, cell, 0);
     }
     if let Some(cell) = first_cell(n, |i| i + 1, |i, j| guard(i, j) != guard(j, i)) {
-        return (5, cell);
+        return (5, cell, 0);
     }
     if let Some(k) = starts[..n].iter().position(|start| !(1..=16384).contains(start)) {
-        return (7, k);
+        return (7, k, 0);
     }
-    let below = |i: usize, j: usize| starts[i] + net.widths[i] + guard(i, j) as u16 <= starts[j];
-    let close = |i, j| guard(i, j) != NO_CONFLICT && !below(i, j) && !below(j, i);
-    first_cell(n, |i| i + 1, close).map_or((0, 0), |cell| (8, cell))
+    let close = |i, j| guard(i, j) != NO_CONFLICT && short(net, starts, i, j) > 0;
+    first_cell(n, |i| i + 1, close)
+        .map_or((0, 0, 0), |cell| (8, cell, short(net, starts, cell / PATHS, cell % PATHS)))
+}
+
+/// How many slots short paths i and j are, i<j.
+fn short(net: &Network, starts: &Starts, i: usize, j: usize) -> usize {
+    let (low, high) = if starts[i] <= starts[j] { (i, j) } else { (j, i) };
+    let past = starts[low] + net.widths[low] + net.guards[PATHS * low + high] as u16;
+    past.saturating_sub(starts[high]) as usize
 }
 
 /// The first cell of the square, each row from some path on, of which something is so.

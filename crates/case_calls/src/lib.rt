@@ -7,6 +7,7 @@ use cases::show;
 fn judge(n: usize, widths: &[u16], guards: &[u8], starts: &[u16]) {
     let r = packing::judge(n, widths, guards, starts);
     show::answer(r.number, r.place);
+    show::value(b" short", r.short);
 }
 
 fn pack(n: usize, widths: &[u16], guards: &[u8], order: &[u8], starts: &mut [u16]) {
@@ -19,6 +20,7 @@ fn pack(n: usize, widths: &[u16], guards: &[u8], order: &[u8], starts: &mut [u16
 fn press(n: usize, widths: &[u16], guards: &[u8], starts: &mut [u16]) {
     let r = packing::press(n, widths, guards, starts);
     show::answer(r.number, r.place);
+    show::value(b" short", r.short);
     show::value(b" highest", r.highest);
     show::numbers(b" starts", starts);
 }

@@ -102,8 +102,12 @@ fn close_row(n: usize, i: usize, widths: &[u16], guards: &[u8], starts: &[u16]) 
 fn clash(n: usize, i: usize, j: usize, widths: &[u16], guards: &[u8], starts: &[u16]) -> Fault
     requires { ⌜ (i < j) × ((j < n) × (Network n (lend (now widths) (now guards)) × (Starts n (now starts)
         × (tooClose (netOf (lend (now widths) (now guards))) (at (now starts)) i j ≡ true)))) ⌝ }
-    ensures { λ r. ⌜ r ≡ record { number = 8; place = cell i j; short = short
-        (netOf (lend (now (widths .entry)) (now (guards .entry)))) (at (now (starts .entry))) i j } ⌝ }
+    ensures { λ r. ⌜ r ≡ record {
+      number = 8;
+      place = cell i j;
+      short = short
+          (netOf (lend (now (widths .entry)) (now (guards .entry)))) (at (now (starts .entry))) i j;
+    } ⌝ }
 {
     let x = cell_short(n, i, j, widths, guards, starts);
     Fault {

@@ -14,6 +14,7 @@ ghost use Rattle.rules.specs.Scan.{first};
 ghost use Rattle.rules.specs.Numbers.{fault, noFault, refuseIf, scan, square, nowhereShort, outside, countFault, networkSizes, planSizes, badGuard, badMirror, orderFault, startFault, networkFault, lentFault, packFault};
 ghost use Rattle.tables.specs.Cells.{badCell};
 
+// No test but 8 says how many slots short (RULES 17).
 pub fn refused(number: usize, place: usize) -> Fault
     ensures { λ r. ⌜ r ≡ fault number place ⌝ }
 {
@@ -28,11 +29,7 @@ pub fn refused(number: usize, place: usize) -> Fault
 pub fn accepted() -> Fault
     ensures { λ r. ⌜ r ≡ noFault ⌝ }
 {
-    Fault {
-        number: 0,
-        place: 0,
-        short: 0,
-    }
+    refused(0, 0)
 }
 
 // 1: n outside 1 to 128.
