@@ -37,7 +37,7 @@
 #include <stddef.h>
 #include <stdint.h>
 
-#define NESBRUNKA_VERSION "0.9.0"
+#define NESBRUNKA_VERSION "0.10.0"
 #define NESBRUNKA_VERSION_MAJOR 0
 #define NESBRUNKA_VERSION_MINOR 9
 #define NESBRUNKA_VERSION_PATCH 0

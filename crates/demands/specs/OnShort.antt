@@ -22,6 +22,7 @@ use Rattle.table_laws.specs.Tables.{at-same, at-other}
 use Rattle.table_laws.specs.Faults.{or-second, or-past, never-refuse, never-size, never-lent, size-clear}
 use Rattle.table_laws.specs.Limits.{starts-within}
 use Rattle.table_laws.specs.Chains.{lent-clear}
+use Rattle.plan_laws.specs.Fits.{network-bounds}
 use Rattle.plan_laws.specs.Short.{short-below, short-above, zero-clear, clear-zero}
 use Rattle.plan_laws.specs.Clash.{close-parts}
 use Rattle.plan_laws.specs.Judge.{clear-distance, distance-clear}
@@ -40,8 +41,18 @@ lower-above : (p : ℕ → ℕ) (i j : ℕ) → p j < p i → isLower p i j ≡ 
 unfolding isLower
 lower-above p i j h = rw (le-ltb (p i) (p j) (omega arith), ne-eqb (p i) (p j) (λ e. omega arith))
 
+unfoldable pub lower : (ℕ → ℕ) → ℕ → ℕ → ℕ
+lower plan i j = cond (isLower plan i j) i j
+
 unfoldable pub upper : (ℕ → ℕ) → ℕ → ℕ → ℕ
 upper plan i j = cond (isLower plan i j) j i
+
+lower-upper : (p : ℕ → ℕ) (i j : ℕ) → i < j → lower p i j ≢ upper p i j
+lower-upper p i j l = unfold lower upper in (go (isLower p i j))
+  where
+    go : (b : Bool) → cond b i j ≢ cond b j i
+    go true e = omega arith
+    go false e = omega arith
 
 -- what the number means, of any two paths of a network within the limits
 module _ (net : Net) (p : ℕ → ℕ) (i j : ℕ) (l : i < j) (wi : 1 ≤ net .width i) (wj : 1 ≤ net .width j) where
@@ -55,28 +66,34 @@ module _ (net : Net) (p : ℕ → ℕ) (i j : ℕ) (l : i < j) (wi : 1 ≤ net .
     λ d. clear-zero net p i j l wi wj (distance-clear net p i j wi wj (sym e) d),
   )
 
-  -- the upper path moved up by m is clear of the other exactly where m is so many or more. A plan q has it there
-  pub moved-clear : (q : ℕ → ℕ) (m : ℕ) → ((k : ℕ) → k ≢ upper p i j → q k ≡ p k) → q (upper p i j) ≡ p (upper p i j) + m
-      → (Clear net q i j ⊎ Clear net q j i) ↔ (short net p i j ≤ m)
-  moved-clear q m others up = go (decLt (p j) (p i))
+  -- the two moved apart, the upper up by a slots and the lower down by b, are clear exactly where these are so
+  -- many or more in all. A plan q has them there
+  pub moved-apart : (q : ℕ → ℕ) (a b : ℕ) → q (upper p i j) ≡ p (upper p i j) + a → q (lower p i j) + b ≡ p (lower p i j)
+      → (Clear net q i j ⊎ Clear net q j i) ↔ (short net p i j ≤ a + b)
+  moved-apart q a b up down = go (decLt (p j) (p i))
     where
-      below : (a b : ℕ) → (Clear net q a b → short net p i j ≤ m) → (Clear net q b a → short net p i j ≤ m) → Clear net q a b ⊎ Clear net q b a → short net p i j ≤ m
-      below a b f g (inl c) = f c
-      below a b f g (inr c) = g c
+      one : {A B C : Type 0} → (A → C) → (B → C) → A ⊎ B → C
+      one f g (inl x) = f x
+      one f g (inr x) = g x
 
-      go : Dec (p j < p i) → (Clear net q i j ⊎ Clear net q j i) ↔ (short net p i j ≤ m)
+      go : Dec (p j < p i) → (Clear net q i j ⊎ Clear net q j i) ↔ (short net p i j ≤ a + b)
       go (yes x) =
-          let u : upper p i j ≡ i = unfold upper in (rw (lower-above p i j x)) in
           let s = short-above net p i j x in
-          let a : q i ≡ p i + m = rw (← u) up in
-          let b : q j ≡ p j = others j (λ e. omega (arith, e ∙ u)) in
-          (below i j (λ c. absurd (omega arith)) (λ c. omega arith), λ h. inr (omega arith))
+          let t : q i ≡ p i + a = unfold upper in (rw (lower-above p i j x) at up) in
+          let u : q j + b ≡ p j = unfold lower in (rw (lower-above p i j x) at down) in
+          (one (λ c. absurd (omega arith)) (λ c. omega arith), λ h. inr (omega arith))
       go (no x) =
-          let u : upper p i j ≡ j = unfold upper in (rw (lower-below p i j l (omega arith))) in
           let s = short-below net p i j l (omega arith) in
-          let a : q j ≡ p j + m = rw (← u) up in
-          let b : q i ≡ p i = others i (λ e. omega (arith, e ∙ u)) in
-          (below i j (λ c. omega arith) (λ c. absurd (omega arith)), λ h. inl (omega arith))
+          let t : q j ≡ p j + a = unfold upper in (rw (lower-below p i j l (omega arith)) at up) in
+          let u : q i + b ≡ p i = unfold lower in (rw (lower-below p i j l (omega arith)) at down) in
+          (one (λ c. omega arith) (λ c. absurd (omega arith)), λ h. inl (omega arith))
+
+  -- the upper alone
+  pub moved-up : (q : ℕ → ℕ) (m : ℕ) → q (upper p i j) ≡ p (upper p i j) + m → q (lower p i j) ≡ p (lower p i j)
+      → (Clear net q i j ⊎ Clear net q j i) ↔ (short net p i j ≤ m)
+  moved-up q m up stays =
+      let r = moved-apart q m 0 up (omega (arith, stays)) in
+      (λ c. omega (arith, r .0 c), λ h. r .1 (omega arith))
 
 -- and the order in which the two are named makes no difference
 pub short-either : (net : Net) (p : ℕ → ℕ) (i j : ℕ) → i < j → short net p i j ≡ short net p j i
@@ -99,6 +116,15 @@ short-either net p i j l = unfold short in (rw other (go (isLower p i j)))
     go true = refl
     go false = refl
 
+-- it is never more than the widest path and the largest guard together
+pub short-most : (net : Net) (p : ℕ → ℕ) (i j : ℕ) → i < j → net .width i ≤ 64 → net .width j ≤ 64 → net .guard i j ≤ 32 → net .guard i j ≡ net .guard j i
+    → short net p i j ≤ 96
+short-most net p i j l wi wj g e = go (decLt (p j) (p i))
+  where
+    go : Dec (p j < p i) → short net p i j ≤ 96
+    go (yes x) = omega (arith, short-above net p i j x)
+    go (no x) = omega (arith, short-below net p i j l (omega arith))
+
 -- A table of starts in which the upper of two paths stands m slots higher
 unfoldable pub raised : List ℕ → ℕ → ℕ → ℕ → List ℕ
 raised starts i j m = let k = upper (at starts) i j in set starts k (at starts k + m)
@@ -114,6 +140,7 @@ pub record Says (n : ℕ) (lent : Lent) (starts : List ℕ) (f : Fault) : Type 0
   pub place : f .place ≡ cell i j
   pub short : f .short ≡ short (netOf lent) (at starts) i j
   pub some : 0 < f .short
+  pub most : f .short ≤ 96
   pub clears : (m : ℕ)
       → (Clear (netOf lent) (at (raised starts i j m)) i j ⊎ Clear (netOf lent) (at (raised starts i j m)) j i) ↔ (f .short ≤ m)
 
@@ -136,9 +163,11 @@ module _ (n : ℕ) (lent : Lent) (starts : List ℕ) where
         place = refl;
         short = refl;
         some = omega (arith, c .2);
+        most = short-most net (at starts) i j (c .0) (w .width i l .1) (w .width j g .1) (network-bounds n lent w .near i j l g (c .1)) (w .mirrored i j l g);
         clears = λ m. unfold raised in
-            (moved-clear net (at starts) i j (c .0) (w .width i l .0) (w .width j g .0) (at (set starts (top i j) (at starts (top i j) + m))) m
-            (λ k h. at-other starts (top i j) (at starts (top i j) + m) k h) (at-same starts (top i j) (at starts (top i j) + m) (room i j l g)));
+            (moved-up net (at starts) i j (c .0) (w .width i l .0) (w .width j g .0) (at (set starts (top i j) (at starts (top i j) + m))) m
+            (at-same starts (top i j) (at starts (top i j) + m) (room i j l g))
+            (at-other starts (top i j) (at starts (top i j) + m) (lower (at starts) i j) (lower-upper (at starts) i j (c .0))));
       })
     where
       top : ℕ → ℕ → ℕ
