@@ -27,9 +27,12 @@ fn table<T: Copy>(first: &[T], junk: T) -> [T; PATHS] {
 fn judging() {
     let (widths, guards) = network();
     let valid = judge(3, &widths, &guards, &table(&[1, 4, 10], 9));
-    assert_eq!(valid, Judged { number: DONE, place: 0 });
-    let close = judge(3, &widths, &guards, &table(&[1, 4, 9], 9));
-    assert_eq!(close, Judged { number: REFUSED_CLASH, place: 128 + 2 });
+    assert_eq!(valid, Judged { number: DONE, place: 0, short: 0 });
+    // Path 1 ends at 7, and with the guard of 2 path 2 may start at 10.
+    let close = judge(3, &widths, &guards, &table(&[1, 4, 7], 9));
+    assert_eq!(close, Judged { number: REFUSED_CLASH, place: 128 + 2, short: 3 });
+    let none = judge(3, &widths, &guards, &table(&[1, 4, 0], 9));
+    assert_eq!(none, Judged { number: REFUSED_START, place: 2, short: 0 });
 }
 
 #[test]
@@ -46,8 +49,20 @@ fn pressing() {
     let (widths, guards) = network();
     let mut starts = table(&[20, 10, 30], 7);
     let pressed = press(3, &widths, &guards, &mut starts);
-    assert_eq!(pressed, Packed { number: DONE, place: 0, highest: 10 });
+    assert_eq!(pressed, Pressed { number: DONE, place: 0, short: 0, highest: 10 });
     assert_eq!(starts, table(&[6, 1, 8], 7));
+}
+
+#[test]
+fn pressing_refused() {
+    let (widths, guards) = network();
+    // Path 1 ends at 5, and with the guard of 1 path 0 may start at 7.
+    let mut starts = table(&[3, 2, 20], 7);
+    let close = press(3, &widths, &guards, &mut starts);
+    assert_eq!(close, Pressed { number: REFUSED_CLASH, place: 1, short: 4, highest: 0 });
+    assert_eq!(starts, table(&[3, 2, 20], 7));
+    let none = press(3, &widths, &guards, &mut table(&[3, 0, 20], 7));
+    assert_eq!(none, Pressed { number: REFUSED_START, place: 1, short: 0, highest: 0 });
 }
 
 #[test]
