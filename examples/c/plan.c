@@ -1,7 +1,9 @@
 /* Reads a sheet from standard input, plans it with seed 1 and 1,000 rounds, judges the plan and
    prints the sheet with its starts. Refused, it prints the number and the line, as the plan
    program does. The exit status is 0 for a plan, 1 for a refusal, 2 where something else went
-   wrong: what was printed is then not to be used. */
+   wrong: what was printed is then not to be used.
+
+   A plan that the sheet came with is replaced; what judging it answers is said on standard error. */
 #include <stdio.h>
 
 #include "nesbrunka.h"
@@ -21,6 +23,34 @@ static int unexpected(const char *call, size_t number, size_t place)
 {
     fprintf(stderr, "%s: refused %zu at %zu\n", call, number, place);
     return TROUBLE;
+}
+
+static nesbrunka_judged judge(size_t n)
+{
+    return nesbrunka_judge(n, widths, NESBRUNKA_PATHS, guards, NESBRUNKA_CELLS,
+                           starts, NESBRUNKA_PATHS);
+}
+
+/* No zero byte ends a label of eight bytes: it is printed with its length, as '%.*s'. */
+static const char *label(size_t path)
+{
+    return (const char *)&labels[NESBRUNKA_LABEL * path];
+}
+
+/* The sheet's own plan is valid or has a clash: 0 where that was said. */
+static int say_judged(nesbrunka_judged judged)
+{
+    if (judged.number == NESBRUNKA_DONE) {
+        fprintf(stderr, "the sheet's plan is valid\n");
+        return 0;
+    }
+    if (judged.number != NESBRUNKA_REFUSED_CLASH)
+        return unexpected("judge", judged.number, judged.place);
+    fprintf(stderr, "the sheet's plan: %.*s and %.*s are %zu %s short\n",
+            NESBRUNKA_LABEL, label(judged.place / NESBRUNKA_PATHS),
+            NESBRUNKA_LABEL, label(judged.place % NESBRUNKA_PATHS),
+            judged.short_, judged.short_ == 1 ? "slot" : "slots");
+    return 0;
 }
 
 /* What is printed may stand in a buffer still: it is written when this has answered 0. */
@@ -49,14 +79,15 @@ int main(void)
         return printed(REFUSED);
     }
     size_t n = sheet.n;
+    /* A sheet has all its starts or none. */
+    if (starts[0] != 0 && say_judged(judge(n)) != 0)
+        return TROUBLE;
     nesbrunka_planned plan =
         nesbrunka_plan(n, widths, NESBRUNKA_PATHS, guards, NESBRUNKA_CELLS,
                        order, NESBRUNKA_PATHS, starts, NESBRUNKA_PATHS, 1, 1000);
     if (plan.number != NESBRUNKA_DONE)
         return unexpected("plan", plan.number, plan.place);
-    nesbrunka_judged judged =
-        nesbrunka_judge(n, widths, NESBRUNKA_PATHS, guards, NESBRUNKA_CELLS,
-                        starts, NESBRUNKA_PATHS);
+    nesbrunka_judged judged = judge(n);
     if (judged.number != NESBRUNKA_DONE)
         return unexpected("judge", judged.number, judged.place);
     nesbrunka_sheet_written written =

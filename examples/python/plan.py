@@ -4,6 +4,8 @@ prints the sheet with its starts. Refused, it prints the number and the line, as
 does. The exit status is 0 for a plan, 1 for a refusal, 2 where something else went wrong: what was
 printed is then not to be used.
 
+A plan that the sheet came with is replaced; what judging it answers is said on standard error.
+
 The library is the shared object NESBRUNKA_SO, by default target/libnesbrunka.so of this repository;
 README.md has the command that makes it.
 """
@@ -13,28 +15,33 @@ from ctypes import CDLL, POINTER, Structure, c_size_t, c_uint8, c_uint16, c_uint
 from pathlib import Path
 
 # Names and values as in include/nesbrunka.h.
-PATHS, CELLS, LABELS, SHEET_MOST = 128, 16384, 1024, 45489
-DONE = 0
+PATHS, CELLS, LABEL, LABELS, SHEET_MOST = 128, 16384, 8, 1024, 45489
+DONE, REFUSED_CLASH = 0, 8
 
 # A table is passed as a pointer and then its number of cells.
 BYTES = [POINTER(c_uint8), c_size_t]
 NUMBERS = [POINTER(c_uint16), c_size_t]
 
 
-class Judged(Structure):
+class Answer(Structure):
+    """What every answer begins with; the fields of a subclass come after these."""
     _fields_ = [("number", c_size_t), ("place", c_size_t)]
 
 
-class Planned(Structure):
-    _fields_ = Judged._fields_ + [("highest", c_size_t), ("kept", c_size_t)]
+class Judged(Answer):
+    _fields_ = [("short", c_size_t)]
 
 
-class SheetRead(Structure):
-    _fields_ = Judged._fields_ + [("n", c_size_t)]
+class Planned(Answer):
+    _fields_ = [("highest", c_size_t), ("kept", c_size_t)]
 
 
-class SheetWritten(Structure):
-    _fields_ = Judged._fields_ + [("length", c_size_t)]
+class SheetRead(Answer):
+    _fields_ = [("n", c_size_t)]
+
+
+class SheetWritten(Answer):
+    _fields_ = [("length", c_size_t)]
 
 
 def call(library, name, answer, *kinds):
@@ -49,6 +56,21 @@ def done(name, answer):
     if answer.number != DONE:
         raise RuntimeError(f"{name}: refused {answer.number} at {answer.place}")
     return answer
+
+
+def label(labels, path):
+    """The label of a path, without the zero bytes that fill it."""
+    return bytes(labels[LABEL * path : LABEL * (path + 1)]).rstrip(b"\0").decode()
+
+
+def said(judged, labels):
+    """What is said of the sheet's own plan, which is valid or has a clash."""
+    if judged.number != REFUSED_CLASH:
+        done("judge", judged)
+        return "the sheet's plan is valid"
+    a, b = (label(labels, path) for path in divmod(judged.place, PATHS))
+    slots = "slot" if judged.short == 1 else "slots"
+    return f"the sheet's plan: {a} and {b} are {judged.short} {slots} short"
 
 
 def planned(library, sheet):
@@ -71,16 +93,23 @@ def planned(library, sheet):
     if found.number != DONE:
         return 1, b"refused %d line %d\n" % (found.number, found.place)
     n = found.n
+
+    def judged():
+        return judge(n, *widths, *guards, *starts)
+
+    if starts[0][0] != 0:  # A sheet has all its starts or none.
+        say(said(judged(), labels[0]))
     plan_found = done("plan", plan(n, *widths, *guards, *order, *starts, 1, 1000))
-    done("judge", judge(n, *widths, *guards, *starts))
+    done("judge", judged())
     written = done("write", write(n, *labels, *widths, *guards, *starts, text, len(text)))
     say(f"{n} paths, highest slot {plan_found.highest}, {plan_found.kept} swaps kept")
     return 0, bytes(text[: written.length])
 
 
 def say(words):
-    """On standard error, where there is one."""
-    print(words, file=sys.stderr)
+    """On standard error, where there is one: without a file, print takes standard output."""
+    if sys.stderr is not None:
+        print(words, file=sys.stderr)
 
 
 def main():

@@ -3,10 +3,13 @@
 //! program does. The exit status is 0 for a plan, 1 for a refusal, 2 where something else went
 //! wrong: what was printed is then not to be used.
 //!
+//! A plan that the sheet came with is replaced; what judging it answers is said on standard error.
+//!
 //! Standard input and output that are closed from the start are not seen: before `main` Rust's
 //! runtime opens the null device in their place.
 
-use nesbrunka::{judge, plan, read, write, CELLS, DONE, LABELS, PATHS, SHEET_MOST};
+use nesbrunka::{judge, plan, read, write, Judged};
+use nesbrunka::{CELLS, DONE, LABEL, LABELS, PATHS, REFUSED_CLASH, SHEET_MOST};
 use std::error::Error;
 use std::io::{self, Read, Write};
 use std::process::ExitCode;
@@ -49,9 +52,14 @@ fn answer(text: &[u8]) -> Result<Answer, String> {
         return Ok(Answer::Refused(format!("refused {} line {}\n", sheet.number, sheet.place)));
     }
     let n = sheet.n;
+    let judge = |starts: &[u16]| judge(n, &widths, &guards, starts);
+    // A sheet has all its starts or none.
+    if starts[0] != 0 {
+        eprintln!("{}", said(judge(&starts), &labels)?);
+    }
     let planned = plan(n, &widths, &guards, &mut order, &mut starts, 1, 1000);
     expect("plan", planned.number, planned.place)?;
-    let judged = judge(n, &widths, &guards, &starts);
+    let judged = judge(&starts);
     expect("judge", judged.number, judged.place)?;
     let mut room = vec![0; SHEET_MOST];
     let written = write(n, &labels, &widths, &guards, &starts, &mut room);
@@ -59,6 +67,23 @@ fn answer(text: &[u8]) -> Result<Answer, String> {
     room.truncate(written.length);
     eprintln!("{n} paths, highest slot {}, {} swaps kept", planned.highest, planned.kept);
     Ok(Answer::Planned(room))
+}
+
+/// What is said of the sheet's own plan, which is valid or has a clash.
+fn said(judged: Judged, labels: &[u8]) -> Result<String, String> {
+    if judged.number != REFUSED_CLASH {
+        expect("judge", judged.number, judged.place)?;
+        return Ok("the sheet's plan is valid".to_string());
+    }
+    let (a, b) = (label(labels, judged.place / PATHS), label(labels, judged.place % PATHS));
+    let slots = if judged.short == 1 { "slot" } else { "slots" };
+    Ok(format!("the sheet's plan: {a} and {b} are {} {slots} short", judged.short))
+}
+
+/// A path's label, without the zero bytes that fill it.
+fn label(labels: &[u8], path: usize) -> String {
+    let filled = String::from_utf8_lossy(&labels[LABEL * path..][..LABEL]);
+    filled.trim_end_matches('\0').to_string()
 }
 
 /// A sheet that was read is planned, valid and written: a refusal there is no answer.
