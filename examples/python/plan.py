@@ -11,6 +11,7 @@ README.md has the command that makes it.
 """
 import os
 import sys
+from contextlib import suppress
 from ctypes import CDLL, POINTER, Structure, c_size_t, c_uint8, c_uint16, c_uint32
 from pathlib import Path
 
@@ -107,9 +108,9 @@ def planned(library, sheet):
 
 
 def say(words):
-    """On standard error, where there is one: without a file, print takes standard output."""
-    if sys.stderr is not None:
-        print(words, file=sys.stderr)
+    """On standard error, as far as that takes it: what is said there changes no answer."""
+    with suppress(OSError):
+        os.write(2, f"{words}\n".encode())
 
 
 def main():

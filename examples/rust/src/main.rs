@@ -24,7 +24,7 @@ fn main() -> ExitCode {
     match run() {
         Ok(status) => ExitCode::from(status),
         Err(trouble) => {
-            eprintln!("plan: {trouble}");
+            say(&format!("plan: {trouble}"));
             ExitCode::from(2)
         }
     }
@@ -55,7 +55,7 @@ fn answer(text: &[u8]) -> Result<Answer, String> {
     let judge = |starts: &[u16]| judge(n, &widths, &guards, starts);
     // A sheet has all its starts or none.
     if starts[0] != 0 {
-        eprintln!("{}", said(judge(&starts), &labels)?);
+        say(&said(judge(&starts), &labels)?);
     }
     let planned = plan(n, &widths, &guards, &mut order, &mut starts, 1, 1000);
     expect("plan", planned.number, planned.place)?;
@@ -65,8 +65,13 @@ fn answer(text: &[u8]) -> Result<Answer, String> {
     let written = write(n, &labels, &widths, &guards, &starts, &mut room);
     expect("write", written.number, written.place)?;
     room.truncate(written.length);
-    eprintln!("{n} paths, highest slot {}, {} swaps kept", planned.highest, planned.kept);
+    say(&format!("{n} paths, highest slot {}, {} swaps kept", planned.highest, planned.kept));
     Ok(Answer::Planned(room))
+}
+
+/// On standard error, as far as that takes it: what is said there changes no answer.
+fn say(words: &str) {
+    let _ = writeln!(io::stderr(), "{words}");
 }
 
 /// What is said of the sheet's own plan, which is valid or has a clash.
