@@ -14,7 +14,7 @@ use Rattle.rules.specs.declared.Fault.{Fault}
 use Rattle.rules.specs.declared.Pressed.{Pressed}
 use Rattle.rules.specs.Tables.{at, cell, Lent}
 use Rattle.rules.specs.Limits.{Network, Starts}
-use Rattle.rules.specs.Plan.{Net, netOf, Conflict, past, Clear, isLower, short, tooClose, setDistance}
+use Rattle.rules.specs.Plan.{Net, netOf, Conflict, end, past, Clear, isLower, short, tooClose, setDistance}
 use Rattle.rules.specs.Numbers.{noFault, _orElse_, scan, sizeFault, startFault, clashFault, lentFault, judgeFault}
 use Rattle.rules.specs.Calls.{Left, judging, refusedPressed, donePressed, pressing}
 use Rattle.rules.specs.Refusing.{Nowhere, Refusal, Gives, sizeTest, startTest, clashTest, lentTests, judgeTests}
@@ -23,24 +23,13 @@ use Rattle.table_laws.specs.Faults.{or-second, or-past, never-refuse, never-siz
 use Rattle.table_laws.specs.Limits.{starts-within}
 use Rattle.table_laws.specs.Chains.{lent-clear}
 use Rattle.plan_laws.specs.Fits.{network-bounds}
-use Rattle.plan_laws.specs.Short.{short-below, short-above, zero-clear, clear-zero}
+use Rattle.plan_laws.specs.Short.{lower-below, lower-above, short-below, short-above, zero-clear, clear-zero}
 use Rattle.plan_laws.specs.Clash.{close-parts}
-use Rattle.plan_laws.specs.Judge.{clear-distance, distance-clear}
+use Rattle.plan_laws.specs.Judge.{clear-distance, distance-clear, distance-below, distance-above}
 use Rattle.demands.specs.Tests.{told, Squared, allRight, firstBad, squared, gives-one, silent-rest}
 use Rattle.demands.specs.OnRefusing.{unsaid, lent-unsaid, judging-gives, pressing-gives}
 
--- of two paths i<j one is the lower, and the other the upper
-lower-below : (p : ℕ → ℕ) (i j : ℕ) → i < j → p i ≤ p j → isLower p i j ≡ true
-lower-below p i j l h = go (decLt (p i) (p j))
-  where
-    go : Dec (p i < p j) → isLower p i j ≡ true
-    go (yes x) = unfold isLower in (rw (lt-ltb (p i) (p j) x))
-    go (no x) = unfold isLower in (rw (le-ltb (p i) (p j) (omega arith), eq-eqb (p i) (p j) (omega arith), lt-ltb i j l))
-
-lower-above : (p : ℕ → ℕ) (i j : ℕ) → p j < p i → isLower p i j ≡ false
-unfolding isLower
-lower-above p i j h = rw (le-ltb (p i) (p j) (omega arith), ne-eqb (p i) (p j) (λ e. omega arith))
-
+-- of two paths the lower and the upper
 unfoldable pub lower : (ℕ → ℕ) → ℕ → ℕ → ℕ
 lower plan i j = cond (isLower plan i j) i j
 
@@ -65,6 +54,13 @@ module _ (net : Net) (p : ℕ → ℕ) (i j : ℕ) (l : i < j) (wi : 1 ≤ net .
     λ z. clear-distance net p i j wi wj (sym e) (zero-clear net p i j l z),
     λ d. clear-zero net p i j l wi wj (distance-clear net p i j wi wj (sym e) d),
   )
+
+  -- where the two blocks lie apart, it is what their distance lacks to the guard. The set distance stands here
+  -- with 1 added (rules/specs/Plan), so the guard does too
+  pub short-gap : net .guard i j ≡ net .guard j i → (end net i (p i) < p j) ⊎ (end net j (p j) < p i)
+      → short net p i j ≡ net .guard i j + 1 - setDistance net p i j
+  short-gap e (inl x) = omega (arith, short-below net p i j l (omega arith), distance-below net p i j wi wj x)
+  short-gap e (inr x) = omega (arith, short-above net p i j (omega arith), distance-above net p i j wi wj x)
 
   -- the two moved apart, the upper up by a slots and the lower down by b, are clear exactly where these are so
   -- many or more in all. A plan q has them there

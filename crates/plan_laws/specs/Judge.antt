@@ -82,6 +82,25 @@ module _ (net : Net) (p : ℕ → ℕ) where
           meet (yes z) = absurd (omega (arith, distance-le i j (p j - p i) 0 (omega arith) (omega arith)))
           meet (no z) = absurd (omega (arith, distance-le i j 0 (p i - p j) (omega arith) (omega arith)))
 
+  -- where the two blocks lie apart it is from the end of the lower to the start of the upper
+  pub distance-below : (i j : ℕ) → 1 ≤ net .width i → 1 ≤ net .width j → end net i (p i) < p j → setDistance net p i j ≡ p j - end net i (p i)
+  unfolding between
+  distance-below i j wi wj x =
+      omega (
+        arith,
+        distance-le i j (net .width i - 1) 0 (omega arith) (omega arith),
+        distance-ge i j (p j - end net i (p i)) wi wj (λ a b l g. omega arith),
+      )
+
+  pub distance-above : (i j : ℕ) → 1 ≤ net .width i → 1 ≤ net .width j → end net j (p j) < p i → setDistance net p i j ≡ p i - end net j (p j)
+  unfolding between
+  distance-above i j wi wj x =
+      omega (
+        arith,
+        distance-le i j 0 (net .width j - 1) (omega arith) (omega arith),
+        distance-ge i j (p i - end net j (p j)) wi wj (λ a b l g. omega arith),
+      )
+
   module _ (n : ℕ) (wide : (k : ℕ) → k < n → 1 ≤ net .width k) (mirrored : (i j : ℕ) → i < n → j < n → net .guard i j ≡ net .guard j i) where
     pub valid-published : Valid net n p → Published net n p
     valid-published v = record {

@@ -1,6 +1,7 @@
 -- How many slots short a pair is: the number of RULES 4 by its two cases, and what it means. Assumes nothing.
 use Prim.Native.Nat.{ℕ, _+_, _-_, _≤_, _<_}
 use mathlib.Core.Path.{_≡_}
+use mathlib.Core.Bool.{true, false}
 use mathlib.Core.Logic.{_⊎_, inl, inr, _↔_}
 use native.Mathlib.Omega.{arith}
 use native.Mathlib.Decide.{decLt}
@@ -8,18 +9,27 @@ use borrow.Author.Tests.{eq-eqb, ne-eqb, lt-ltb, le-ltb}
 use Rattle.rules.specs.Plan.{Net, past, Clear, isLower, short}
 use Rattle.rules.specs.Refusing.{Lacks}
 
-module _ (net : Net) (p : ℕ → ℕ) (i j : ℕ) where
-  -- path i is the lower, and path j is
-  pub short-below : i < j → p i ≤ p j → short net p i j ≡ past net i j (p i) - p j
-  short-below l h = go (decLt (p i) (p j))
+-- of two paths i<j one is the lower
+module _ (p : ℕ → ℕ) (i j : ℕ) where
+  pub lower-below : i < j → p i ≤ p j → isLower p i j ≡ true
+  lower-below l h = go (decLt (p i) (p j))
     where
-      go : Dec (p i < p j) → short net p i j ≡ past net i j (p i) - p j
-      go (yes x) = unfold short isLower in (rw (lt-ltb (p i) (p j) x))
-      go (no x) = unfold short isLower in (rw (le-ltb (p i) (p j) (omega arith), eq-eqb (p i) (p j) (omega arith), lt-ltb i j l))
+      go : Dec (p i < p j) → isLower p i j ≡ true
+      go (yes x) = unfold isLower in (rw (lt-ltb (p i) (p j) x))
+      go (no x) = unfold isLower in (rw (le-ltb (p i) (p j) (omega arith), eq-eqb (p i) (p j) (omega arith), lt-ltb i j l))
+
+  pub lower-above : p j < p i → isLower p i j ≡ false
+  unfolding isLower
+  lower-above h = rw (le-ltb (p i) (p j) (omega arith), ne-eqb (p i) (p j) (λ e. omega arith))
+
+module _ (net : Net) (p : ℕ → ℕ) (i j : ℕ) where
+  pub short-below : i < j → p i ≤ p j → short net p i j ≡ past net i j (p i) - p j
+  unfolding short
+  short-below l h = rw (lower-below p i j l h)
 
   pub short-above : p j < p i → short net p i j ≡ past net j i (p j) - p i
-  unfolding short isLower
-  short-above h = rw (le-ltb (p i) (p j) (omega arith), ne-eqb (p i) (p j) (λ e. omega arith))
+  unfolding short
+  short-above h = rw (lower-above p i j h)
 
   -- it is 0 exactly where one of the two is clear of the other
   pub zero-clear : i < j → short net p i j ≡ 0 → Clear net p i j ⊎ Clear net p j i
