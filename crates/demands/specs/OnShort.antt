@@ -1,22 +1,21 @@
 -- How many slots short a pair is (RULES 4), of any two paths and as judging and pressing answer. Assumes
 -- nothing.
 use Prim.Native.Nat.{ℕ, _+_, _-_, _≤_, _<_}
-use mathlib.Core.Path.{_≡_, refl, sym, ap, subst, _∙_}
+use mathlib.Core.Path.{_≡_, refl, sym, ap, _∙_}
 use mathlib.Core.Logic.{_≢_, _⊎_, inl, inr, _↔_}
 use mathlib.Core.Bool.{Bool, true, false, cond, not, _&&_}
-use mathlib.Core.List.{List, [], _∷_, _++_}
+use mathlib.Core.List.{List, [], _∷_}
 use native.Mathlib.Omega.{arith}
 use native.Mathlib.Decide.{decLt}
 use lib.ListN.{length, set}
-use lib.Dec.{ltb, eqb}
-use borrow.Author.Tests.{lt-ltb, le-ltb, eq-eqb, ne-eqb}
+use lib.Dec.{eqb}
+use borrow.Author.Tests.{lt-ltb, le-ltb}
 use Rattle.rules.specs.declared.Fault.{Fault}
-use Rattle.rules.specs.declared.Pressed.{Pressed}
 use Rattle.rules.specs.Tables.{at, cell, Lent}
 use Rattle.rules.specs.Limits.{Network, Starts}
 use Rattle.rules.specs.Plan.{Net, netOf, Conflict, end, past, Clear, isLower, short, tooClose, setDistance}
 use Rattle.rules.specs.Numbers.{noFault, _orElse_, scan, sizeFault, startFault, clashFault, lentFault, judgeFault}
-use Rattle.rules.specs.Calls.{Left, judging, refusedPressed, donePressed, pressing}
+use Rattle.rules.specs.Calls.{judging, pressing}
 use Rattle.rules.specs.Refusing.{Nowhere, Refusal, Gives, sizeTest, startTest, clashTest, lentTests, judgeTests}
 use Rattle.table_laws.specs.Tables.{at-same, at-other}
 use Rattle.table_laws.specs.Faults.{or-second, or-past, never-refuse, never-size, never-lent, size-clear}
@@ -24,6 +23,7 @@ use Rattle.table_laws.specs.Limits.{starts-within}
 use Rattle.table_laws.specs.Chains.{lent-clear}
 use Rattle.plan_laws.specs.Fits.{network-bounds}
 use Rattle.plan_laws.specs.Short.{lower-below, lower-above, short-below, short-above, zero-clear, clear-zero}
+use Rattle.plan_laws.specs.Answers.{judging-judgeable}
 use Rattle.plan_laws.specs.Clash.{close-parts}
 use Rattle.plan_laws.specs.Judge.{clear-distance, distance-clear, distance-below, distance-above}
 use Rattle.demands.specs.Tests.{told, Squared, allRight, firstBad, squared, gives-one, silent-rest}
@@ -125,9 +125,12 @@ short-most net p i j l wi wj g e = go (decLt (p j) (p i))
 unfoldable pub raised : List ℕ → ℕ → ℕ → ℕ → List ℕ
 raised starts i j m = let k = upper (at starts) i j in set starts k (at starts k + m)
 
--- what an answer of 8 says: two conflicting paths, their cell, and by how many slots they are short: the upper
--- one is clear of the other where it stands so many slots higher, or more, and with fewer it is not
+-- what an answer of 8 says: all is within the limits but for two conflicting paths, with their cell, and by how
+-- many slots they are short: the upper one is clear of the other where it stands so many slots higher, or more,
+-- and with fewer it is not
 pub record Says (n : ℕ) (lent : Lent) (starts : List ℕ) (f : Fault) : Type 0 where
+  pub network : Network n lent
+  pub legal : Starts n starts
   pub i : ℕ
   pub j : ℕ
   pub below : i < j
@@ -151,6 +154,8 @@ module _ (n : ℕ) (lent : Lent) (starts : List ℕ) where
   says w s (firstBad i j l g b rows row e) z =
       let c = close-parts net (at starts) i j b in
       rw e (record {
+        network = w;
+        legal = s;
         i = i;
         j = j;
         below = c .0;
@@ -215,3 +220,34 @@ module _ (n : ℕ) (lent : Lent) (starts : List ℕ) where
   pub pressing-silent : pressing n lent starts .answer .number ≢ 8 → pressing n lent starts .answer .short ≡ 0
   pressing-silent h =
       ap (λ (f : Fault). f .short) pressing-judges ∙ judging-silent (λ z. h (ap (λ (f : Fault). f .number) pressing-judges ∙ z))
+
+-- so the table with the upper path so many slots higher, judged, is not refused at that cell again; with fewer
+-- it is refused still
+module _ (n : ℕ) (lent : Lent) (starts : List ℕ) (old : Says n lent starts (judging n lent starts)) (m : ℕ) where
+  abbrev moved : List ℕ
+  moved = raised starts (old .i) (old .j) m
+
+  pub raised-clears : judging n lent starts .short ≤ m → judging n lent moved .number ≡ 8 → judging n lent moved .place ≢ judging n lent starts .place
+  raised-clears h again e = absurd (omega (arith, now .some, now .short, here, zero))
+    where
+      now : Says n lent moved (judging n lent moved)
+      now = judging-short n lent moved again
+
+      row : now .i ≡ old .i
+      row = omega (arith, now .place, old .place, now .inside, old .inside, old .network .few, e)
+
+      column : now .j ≡ old .j
+      column = omega (arith, now .place, old .place, now .inside, old .inside, old .network .few, e)
+
+      here : short (netOf lent) (at moved) (now .i) (now .j) ≡ short (netOf lent) (at moved) (old .i) (old .j)
+      here = rw (row, column)
+
+      zero : short (netOf lent) (at moved) (old .i) (old .j) ≡ 0
+      zero =
+          clear-zero (netOf lent) (at moved) (old .i) (old .j) (old .below) (old .network .width (old .i) (omega (arith, old .below, old .inside)) .0)
+          (old .network .width (old .j) (old .inside) .0) (old .clears m .1 h)
+
+  pub raised-short : m < judging n lent starts .short → judging n lent moved .number ≢ 0
+  raised-short h z =
+      let valid = judging-judgeable n lent moved z .valid in
+      omega (arith, old .clears m .0 (valid .apart (old .i) (old .j) (old .below) (old .inside) (old .conflict)))
