@@ -5,35 +5,50 @@
 use crate::net::*;
 use crate::rules;
 
-/// What a call answers: its number, its place, and its other numbers (0 where it has none).
+/// What a call answers: its number, its place, with number 8 how many slots the pair is short
+/// (else 0), and its other numbers (0 where it has none).
 #[derive(Clone, Copy, Debug, PartialEq, Eq)]
 pub struct Answer {
     pub number: usize,
     pub place: usize,
+    pub short: usize,
     pub more: [usize; 2],
 }
 
 impl Answer {
-    /// Number 0, place 0.
-    pub fn done(first: usize, second: usize) -> Answer {
-        Answer { number: 0, place: 0, more: [first, second] }
+    /// An answer that speaks of no clash.
+    pub fn new(number: usize, place: usize, more: [usize; 2]) -> Answer {
+        Answer { number, place, short: 0, more }
     }
 
-    /// A refused answer has no numbers but its own and its place.
+    /// Number 0, place 0.
+    pub fn done(first: usize, second: usize) -> Answer {
+        Answer::new(0, 0, [first, second])
+    }
+
+    /// A refused answer has no numbers but those of the refusal.
     pub fn of(result: Result<Answer, Refusal>) -> Answer {
-        result.unwrap_or_else(|r| Answer { number: r.number, place: r.place, more: [0, 0] })
+        let refused = |r: Refusal| Answer::new(r.number, r.place, [0, 0]).with_short(r.short);
+        result.unwrap_or_else(refused)
+    }
+
+    /// The same answer with a shortfall.
+    pub fn with_short(self, short: usize) -> Answer {
+        Answer { short, ..self }
     }
 }
 
-/// A refusal: one row of RULES 17.
+/// A refusal: one row of RULES 17, and for number 8 the shortfall of RULES 4.
 #[derive(Clone, Copy, Debug, PartialEq, Eq)]
 pub struct Refusal {
     pub number: usize,
     pub place: usize,
+    pub short: usize,
 }
 
+/// A refusal other than 8.
 pub fn refuse<T>(number: usize, place: usize) -> Result<T, Refusal> {
-    Err(Refusal { number, place })
+    Err(Refusal { number, place, short: 0 })
 }
 
 /// Refuses at the first place, if there is one.
@@ -93,9 +108,12 @@ pub fn starts_of(n: usize, starts: &[u16]) -> Result<Vec<usize>, Refusal> {
     Ok(starts)
 }
 
-/// 8: the first pair that is too close, by rows above the diagonal.
+/// 8: the first pair that is short, by rows above the diagonal, and by how many slots.
 fn valid(net: &Network, starts: &[usize]) -> Result<(), Refusal> {
-    refuse_at(8, rules::first_clash(net, starts).map(|(i, j)| cell(i, j)))
+    match rules::first_clash(net, starts) {
+        None => Ok(()),
+        Some((i, j, short)) => Err(Refusal { number: 8, place: cell(i, j), short }),
+    }
 }
 
 /// 10: more than 10,000 rounds.
@@ -131,7 +149,7 @@ fn put_order(order: &[usize], table: &mut [u8]) {
     }
 }
 
-/// RULES 4: nothing beside number and place.
+/// RULES 4: nothing beside number, place and shortfall.
 pub fn judge(n: usize, widths: &[u16], guards: &[u8], starts: &[u16]) -> Answer {
     let run = || {
         sizes(&[(widths.len(), PATHS), (guards.len(), CELLS), (starts.len(), PATHS)])?;

@@ -1,5 +1,5 @@
 //! One comparison: the same call made of the library and of this program, on copies of the
-//! same tables; then number, place, other numbers and the whole of every lent table.
+//! same tables; then number, place, shortfall, other numbers and the whole of every lent table.
 
 use crate::calls::{self, Answer};
 use crate::ffi::{self, Cell, Lent};
@@ -66,6 +66,11 @@ impl Case {
     /// The network of a case whose tables are known to be right.
     pub fn network(&self) -> Network {
         calls::network(self.n, &self.widths, &self.guards).expect("a network without a fault")
+    }
+
+    /// The starts of the n paths.
+    pub fn plan(&self) -> Vec<usize> {
+        self.starts[..self.n].iter().map(|&s| usize::from(s)).collect()
     }
 
     /// The part of the case that a call takes, in full.
@@ -363,7 +368,7 @@ pub fn better(t: &mut Tally, c: &Case) -> Option<Outcome> {
     let mut second = Lent::new(&c.second);
     let got = ffi::better(c.n, &mut l.widths, &mut l.guards, &mut l.order, &mut second);
     let which = calls::better(c.n, &c.widths, &c.guards, &c.order, &c.second);
-    let want = Answer { number: which, place: 0, more: [0, 0] };
+    let want = Answer::new(which, 0, [0, 0]);
     Some(settle_with(t, Call::Better, c, l, ("second", &second, &c.second), got, want))
 }
 

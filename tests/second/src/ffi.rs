@@ -68,7 +68,7 @@ pub fn judge(
     n: usize, widths: &mut Lent<u16>, guards: &mut Lent<u8>, starts: &mut Lent<u16>,
 ) -> Answer {
     let r = call!(nesbrunka_judge(n; widths, guards, starts;));
-    Answer { number: r.number, place: r.place, more: [0, 0] }
+    Answer::new(r.number, r.place, [0, 0]).with_short(r.short)
 }
 
 pub fn pack(
@@ -76,21 +76,21 @@ pub fn pack(
     starts: &mut Lent<u16>,
 ) -> Answer {
     let r = call!(nesbrunka_pack(n; widths, guards, order, starts;));
-    Answer { number: r.number, place: r.place, more: [r.highest, 0] }
+    Answer::new(r.number, r.place, [r.highest, 0])
 }
 
 pub fn press(
     n: usize, widths: &mut Lent<u16>, guards: &mut Lent<u8>, starts: &mut Lent<u16>,
 ) -> Answer {
     let r = call!(nesbrunka_press(n; widths, guards, starts;));
-    Answer { number: r.number, place: r.place, more: [r.highest, 0] }
+    Answer::new(r.number, r.place, [r.highest, 0]).with_short(r.short)
 }
 
 pub fn two_sides(
     n: usize, widths: &mut Lent<u16>, guards: &mut Lent<u8>, order: &mut Lent<u8>,
 ) -> Answer {
     let r = call!(nesbrunka_two_sides(n; widths, guards, order;));
-    Answer { number: r.number, place: r.place, more: [r.low, 0] }
+    Answer::new(r.number, r.place, [r.low, 0])
 }
 
 pub fn plan(
@@ -98,7 +98,7 @@ pub fn plan(
     starts: &mut Lent<u16>, seed: u32, rounds: usize,
 ) -> Answer {
     let r = call!(nesbrunka_plan(n; widths, guards, order, starts; seed, rounds));
-    Answer { number: r.number, place: r.place, more: [r.highest, r.kept] }
+    Answer::new(r.number, r.place, [r.highest, r.kept])
 }
 
 pub fn improve(
@@ -106,7 +106,7 @@ pub fn improve(
     starts: &mut Lent<u16>, seed: u32, rounds: usize,
 ) -> Answer {
     let r = call!(nesbrunka_improve(n; widths, guards, order, starts; seed, rounds));
-    Answer { number: r.number, place: r.place, more: [r.highest, r.kept] }
+    Answer::new(r.number, r.place, [r.highest, r.kept])
 }
 
 /// Which of the two stands where other calls have their number.
@@ -115,14 +115,14 @@ pub fn better(
     second: &mut Lent<u8>,
 ) -> Answer {
     let which = call!(nesbrunka_better(n; widths, guards, first, second;));
-    Answer { number: which, place: 0, more: [0, 0] }
+    Answer::new(which, 0, [0, 0])
 }
 
 pub fn floor(
     n: usize, widths: &mut Lent<u16>, guards: &mut Lent<u8>, list: &mut Lent<u8>,
 ) -> Answer {
     let r = call!(nesbrunka_floor(n; widths, guards, list;));
-    Answer { number: r.number, place: r.place, more: [r.floor, 0] }
+    Answer::new(r.number, r.place, [r.floor, 0])
 }
 
 pub fn read(
@@ -130,7 +130,7 @@ pub fn read(
     starts: &mut Lent<u16>,
 ) -> Answer {
     let r = call!(nesbrunka_read(; text, labels, widths, guards, starts;));
-    Answer { number: r.number, place: r.place, more: [r.n, 0] }
+    Answer::new(r.number, r.place, [r.n, 0])
 }
 
 pub fn write(
@@ -138,5 +138,5 @@ pub fn write(
     starts: &mut Lent<u16>, text: &mut Lent<u8>,
 ) -> Answer {
     let r = call!(nesbrunka_write(n; labels, widths, guards, starts, text;));
-    Answer { number: r.number, place: r.place, more: [r.length, 0] }
+    Answer::new(r.number, r.place, [r.length, 0])
 }

@@ -35,7 +35,12 @@ fn long<T: Copy + Default>(first: &[T]) -> Vec<T> {
 }
 
 fn refused(number: usize, place: usize) -> Answer {
-    Answer { number, place, more: [0, 0] }
+    Answer::new(number, place, [0, 0])
+}
+
+/// A clash of a pair, and how many slots it is short.
+fn clash(i: usize, j: usize, short: usize) -> Answer {
+    refused(8, cell(i, j)).with_short(short)
 }
 
 fn packs(order: [usize; 3], starts: [usize; 3], highest: usize) {
@@ -84,7 +89,97 @@ fn p7_improving() {
 fn p8_judging() {
     let (widths, guards) = tables(&[2, 2], &[(0, 1, 1)]);
     assert_eq!(calls::judge(2, &widths, &guards, &long(&[1, 4])), Answer::done(0, 0));
-    assert_eq!(calls::judge(2, &widths, &guards, &long(&[1, 3])), refused(8, 1));
+    assert_eq!(calls::judge(2, &widths, &guards, &long(&[1, 3])), clash(0, 1, 1));
+}
+
+/// Judging two paths in conflict.
+fn judged(widths: [u16; 2], guard: u8, starts: [u16; 2]) -> Answer {
+    let (widths, guards) = tables(&widths, &[(0, 1, guard)]);
+    calls::judge(2, &widths, &guards, &long(&starts))
+}
+
+/// Worked by hand: with equal starts path 0 is the lower one, and its width alone counts. From 7,
+/// width 2 ends at 8 and asks for 10, width 5 ends at 11 and asks for 13.
+#[test]
+fn short_from_equal_starts() {
+    assert_eq!(judged([2, 5], 1, [7, 7]), clash(0, 1, 3));
+    assert_eq!(judged([5, 2], 1, [7, 7]), clash(0, 1, 6));
+    assert_eq!(judged([1, 1], 0, [1, 1]), clash(0, 1, 1));
+}
+
+/// Worked by hand: path 1 takes 8 to 11 and asks for 14. The cell is that of 0 and 1 all the same.
+#[test]
+fn short_with_the_lower_number_above() {
+    assert_eq!(judged([3, 4], 2, [12, 8]), clash(0, 1, 2));
+    assert_eq!(judged([3, 4], 2, [13, 8]), clash(0, 1, 1));
+    assert_eq!(judged([3, 4], 2, [14, 8]), Answer::done(0, 0));
+}
+
+/// Worked by hand: blocks with guard 0 may touch; one common slot is one slot short.
+#[test]
+fn short_with_guard_0() {
+    assert_eq!(judged([3, 3], 0, [4, 7]), Answer::done(0, 0));
+    assert_eq!(judged([3, 3], 0, [4, 6]), clash(0, 1, 1));
+    assert_eq!(judged([3, 3], 0, [4, 5]), clash(0, 1, 2));
+}
+
+/// Worked by hand: one block inside the other. 100 to 163 asks for 196. No pair lacks more than 96.
+#[test]
+fn short_deep_inside() {
+    assert_eq!(judged([64, 1], 32, [100, 110]), clash(0, 1, 86));
+    assert_eq!(judged([1, 64], 32, [110, 100]), clash(0, 1, 86));
+    assert_eq!(judged([64, 1], 32, [100, 163]), clash(0, 1, 33));
+    assert_eq!(judged([64, 64], 32, [16_384, 16_384]), clash(0, 1, 96));
+}
+
+/// Worked by hand: path 1 takes 10 to 13, asks 15 of path 2 and 14 of path 3. The first pair is
+/// named, whether it lacks more than the second or less. Path 0 is in nobody's way.
+#[test]
+fn short_at_the_first_pair() {
+    let conflicts = [(0, 1, 0), (1, 2, 1), (1, 3, 0)];
+    let (widths, guards) = tables(&[2, 4, 3, 6], &conflicts);
+    let judge = |starts: [u16; 4]| calls::judge(4, &widths, &guards, &long(&starts));
+    assert_eq!(judge([1, 10, 11, 12]), clash(1, 2, 4));
+    assert_eq!(judge([1, 10, 14, 12]), clash(1, 2, 1));
+    assert_eq!(judge([1, 10, 15, 12]), clash(1, 3, 2));
+}
+
+/// A wrong start comes before a clash, wherever the two are, and is not short.
+#[test]
+fn short_is_0_with_7() {
+    let (widths, guards) = tables(&[2, 4, 3], &[(0, 1, 1)]);
+    let judge = |starts: [u16; 3]| calls::judge(3, &widths, &guards, &long(&starts));
+    assert_eq!(judge([5, 5, 0]), refused(7, 2));
+    assert_eq!(judge([0, 1, 1]), refused(7, 0));
+    assert_eq!(judge([5, 16_385, 1]), refused(7, 1));
+}
+
+/// Pressing answers a clash as judging does, and leaves the plan.
+#[test]
+fn short_in_pressing() {
+    let (widths, guards) = t_tables();
+    let mut starts = long(&[20, 10, 12]);
+    assert_eq!(calls::press(3, &widths, &guards, &mut starts), clash(1, 2, 4));
+    assert_eq!(starts, long(&[20, 10, 12]));
+    let mut wrong = long(&[20, 10, 0]);
+    assert_eq!(calls::press(3, &widths, &guards, &mut wrong), refused(7, 2));
+}
+
+/// All small pairs: the shortfall is the least number of steps that clears the slots, and the two
+/// paths may be named either way.
+#[test]
+fn short_by_slots() {
+    for number in 0..4 * 4 * 4 * 9 * 9 {
+        let digit = |unit: usize, base: usize| number / unit % base;
+        let guard = digit(16, 4);
+        let net = Network::of(&[1 + digit(1, 4), 1 + digit(4, 4)], &[(0, 1, guard as u8)]);
+        let starts = [1 + digit(64, 9), 1 + digit(576, 9)];
+        let short = rules::shortfall(&net, &starts, 0, 1, guard);
+        assert_eq!((0..).find(|&m| brute::clears(&net, &starts, (0, 1), m)), Some(short));
+        assert!(brute::is_shortfall(&net, &starts, (0, 1), short));
+        assert_eq!(short == 0, brute::valid_by_sets(&net, &starts));
+        assert_eq!(short, rules::shortfall(&net, &starts, 1, 0, guard));
+    }
 }
 
 #[test]

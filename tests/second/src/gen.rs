@@ -270,19 +270,58 @@ pub fn loose_plan(rng: &mut Rng, c: &Case) -> Vec<u16> {
     starts
 }
 
-/// A plan for the judge: valid, nearly valid, or anything.
+/// A plan for judging and pressing: valid, valid but for some pairs, or anything; now and then at
+/// the upper end.
 pub fn any_plan(rng: &mut Rng, c: &Case) -> Vec<u16> {
     let mut starts = loose_plan(rng, c);
-    match rng.below(4) {
+    match rng.below(8) {
         0 => {}
-        1 => {
-            let path = rng.below(c.n);
-            starts[path] = starts[path].saturating_sub(1).max(1);
-        }
-        2 => starts[..c.n].iter_mut().for_each(|s| *s = rng.range(1, 12) as u16),
+        1..=5 => bring_pairs_together(rng, c, &mut starts),
+        6 => starts[..c.n].iter_mut().for_each(|s| *s = rng.range(1, 12) as u16),
         _ => starts[..c.n].iter_mut().for_each(|s| *s = rng.range(1, 300) as u16),
     }
+    if rng.percent(15) {
+        raise(&mut starts[..c.n]);
+    }
     starts
+}
+
+/// Lifts a plan as high as it may be: its highest start is 16,384.
+pub fn raise(starts: &mut [u16]) {
+    let top = starts.iter().copied().max().unwrap_or(0);
+    let shift = (MAX_START as u16).saturating_sub(top);
+    starts.iter_mut().for_each(|s| *s += shift);
+}
+
+/// In one or several conflicting pairs, wherever they stand in the square, moves one path near
+/// the other.
+fn bring_pairs_together(rng: &mut Rng, c: &Case, starts: &mut [u16]) {
+    let conflict = |&(i, j): &(usize, usize)| c.guards[cell(i, j)] != NONE;
+    let every = (0..c.n).flat_map(|i| (0..c.n).map(move |j| (i, j)));
+    let pairs: Vec<(usize, usize)> = every.filter(conflict).collect();
+    if pairs.is_empty() {
+        return;
+    }
+    for _ in 0..rng.pick(&[1, 1, 1, 2, 5]) {
+        let (fixed, moved) = rng.pick(&pairs);
+        starts[moved] = near_start(rng, c, usize::from(starts[fixed]), fixed, moved);
+    }
+}
+
+/// A start for one path of a pair beside the other, which stays at `start`: the same; just clear of
+/// it, or one or two slots short of that, above and below; or anything between.
+fn near_start(rng: &mut Rng, c: &Case, start: usize, fixed: usize, moved: usize) -> u16 {
+    let guard = usize::from(c.guards[cell(fixed, moved)]);
+    let clear_above = start + usize::from(c.widths[fixed]) + guard;
+    let clear_below = start.saturating_sub(usize::from(c.widths[moved]) + guard);
+    let near = match rng.below(5) {
+        0 => start,
+        1 => clear_above - rng.below(3),
+        2 => clear_below + rng.below(3),
+        3 => rng.range(start, clear_above),
+        _ => rng.range(clear_below, start),
+    };
+    near.clamp(1, MAX_START) as u16
 }
 
 /// A list for the floor: mostly grown as paths in conflict with each other.

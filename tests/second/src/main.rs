@@ -34,7 +34,7 @@ second [--seed S] [--minutes M] [--only CALL,..] [--groups GROUP,..] [--threads 
   --minutes M   goes on with new seeds until so many minutes have passed
   --only        calls to compare: judge pack press two_sides plan improve better floor read
                 write program (default: all)
-  --groups      groups to run: exhaustive sizes small large rounds faults sheets program
+  --groups      groups to run: exhaustive sizes small large rounds faults sheets program clashes
   --threads T   threads (default: as many as there are processors)
   --trace       names each call and its case before it is made (for a library that crashes)
 second --print  prints what the plan program has to print for standard input; calls no library

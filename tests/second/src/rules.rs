@@ -14,13 +14,19 @@ pub fn highest(net: &Network, starts: &[usize]) -> usize {
     (0..net.paths()).map(|p| end(net, p, starts[p])).max().unwrap_or(0)
 }
 
-/// RULES 4: the first pair, by i then j, of which neither path is clear above the other.
-pub fn first_clash(net: &Network, starts: &[usize]) -> Option<(usize, usize)> {
-    let apart = |i: usize, j: usize, guard: usize| {
-        starts[i] > end(net, j, starts[j]) + guard || starts[j] > end(net, i, starts[i]) + guard
-    };
-    let clash = net.conflicts().into_iter().find(|&(i, j, guard)| !apart(i, j, guard));
-    clash.map(|(i, j, _)| (i, j))
+/// RULES 4: how many slots a conflicting pair is short. The upper path, the one of the higher start
+/// or of equal starts the higher number, may begin one past the lower one's end and the guard.
+pub fn shortfall(net: &Network, starts: &[usize], i: usize, j: usize, guard: usize) -> usize {
+    let by_start = |path: usize| (starts[path], path);
+    let (lower, upper) = if by_start(i) < by_start(j) { (i, j) } else { (j, i) };
+    let clear = end(net, lower, starts[lower]) + guard + 1;
+    clear.saturating_sub(starts[upper])
+}
+
+/// RULES 4: the first pair, by i then j, that is short, and by how many slots.
+pub fn first_clash(net: &Network, starts: &[usize]) -> Option<(usize, usize, usize)> {
+    let measured = |(i, j, guard)| (i, j, shortfall(net, starts, i, j, guard));
+    net.conflicts().into_iter().map(measured).find(|&(_, _, short)| short > 0)
 }
 
 /// RULES 5: the lowest start past all earlier paths that are in conflict with this one.

@@ -3,6 +3,7 @@
 
 use crate::compare::{self, Case, Tally};
 use crate::gen::{self, Rng};
+use crate::groups::clashes;
 use crate::net::*;
 
 /// One piece for each network: 2 of one path, 12 of two, 216 of three.
@@ -76,11 +77,11 @@ fn digits(base: usize, count: usize) -> Vec<Vec<usize>> {
 
 /// Judging, pressing and writing every plan with starts 0 to 8, then reading it back.
 fn plans(t: &mut Tally, c: &Case) {
+    let net = c.network();
     for plan in digits(9, c.n) {
         let mut c = c.clone();
         (0..c.n).for_each(|i| c.starts[i] = plan[i] as u16);
-        compare::judge(t, &c);
-        compare::press(t, &c);
+        clashes::by_slots(t, &c, &net);
         if let Some((answer, text)) = compare::write(t, &c) {
             c.text = text[..answer.more[0]].to_vec();
             compare::read(t, &c);

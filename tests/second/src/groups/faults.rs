@@ -14,6 +14,10 @@ pub fn piece(t: &mut Tally, rng: &mut Rng, number: usize) {
         let n = if rng.percent(70) { rng.range(1, 9) } else { rng.range(1, PATHS) };
         let shape = rng.pick(&SHAPES);
         let mut c = gen::case(rng, n, shape);
+        // A clash is the last fault of judging and pressing: each other one has to win over it.
+        if rng.percent(50) {
+            c.starts = gen::any_plan(rng, &c);
+        }
         c.rounds = rng.pick(&[0, 1, 7]);
         if n < 5 && rng.percent(3) {
             c.rounds = MAX_ROUNDS;
@@ -159,6 +163,7 @@ pub fn sizes_piece(t: &mut Tally, rng: &mut Rng, which: usize) {
         for n in [1, 2, 3, 64, 127, 128, 0, 129, usize::MAX] {
             let paths = n.clamp(1, PATHS);
             let mut c = gen::case(rng, paths, Shape::Density(50));
+            c.starts = gen::any_plan(rng, &c);
             c.n = n;
             match which {
                 0 => c.widths.resize(length, 1),

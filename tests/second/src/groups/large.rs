@@ -33,8 +33,12 @@ fn rounds(rng: &mut Rng, number: usize, k: usize) -> usize {
 
 fn calls(t: &mut Tally, rng: &mut Rng, c: &Case) {
     compare::all_calls(t, c);
+    for _ in 0..3 {
+        let planned = Case { starts: gen::any_plan(rng, c), ..c.clone() };
+        compare::judge(t, &planned);
+        compare::press(t, &planned);
+    }
     for _ in 0..2 {
-        compare::judge(t, &Case { starts: gen::any_plan(rng, c), ..c.clone() });
         compare::floor(t, &Case { list: gen::list(rng, c), ..c.clone() });
         compare::floor(t, &Case { list: gen::any_list(rng, c), ..c.clone() });
     }
@@ -70,12 +74,10 @@ fn reverse(t: &mut Tally, c: &Case) {
     }
 }
 
-/// A plan that begins as high as the starts may be.
+/// A valid plan as high as it may be.
 fn far_plan(rng: &mut Rng, c: &Case) -> Vec<u16> {
     let mut starts = gen::loose_plan(rng, c);
-    let top = starts[..c.n].iter().copied().max().unwrap_or(1);
-    let shift = MAX_START as u16 - top.min(MAX_START as u16);
-    starts[..c.n].iter_mut().for_each(|s| *s = s.saturating_add(shift));
+    gen::raise(&mut starts[..c.n]);
     starts
 }
 

@@ -1,6 +1,7 @@
 //! The groups of comparisons. Each is cut into pieces; a piece is made from its number alone,
 //! so that the same seed compares the same cases on any number of threads.
 
+pub mod clashes;
 pub mod exhaustive;
 pub mod faults;
 pub mod large;
@@ -22,7 +23,7 @@ pub struct Group {
     pub piece: fn(&mut Tally, &mut Rng, usize),
 }
 
-pub const GROUPS: [Group; 8] = [
+pub const GROUPS: [Group; 9] = [
     Group {
         name: "exhaustive",
         counts: "networks",
@@ -78,5 +79,12 @@ pub const GROUPS: [Group; 8] = [
         pieces: program::PIECES,
         random: true,
         piece: program::piece,
+    },
+    Group {
+        name: "clashes",
+        counts: "pairs",
+        pieces: clashes::PIECES,
+        random: false,
+        piece: clashes::piece,
     },
 ];

@@ -4,6 +4,7 @@
 use crate::brute;
 use crate::compare::{self, Case, Outcome, Tally};
 use crate::gen::{self, Rng, Shape, SHAPES};
+use crate::groups::clashes;
 use crate::net::*;
 use crate::rules;
 
@@ -48,13 +49,13 @@ fn search(t: &mut Tally, c: &Case, net: &Network, best: usize) {
     }
 }
 
-/// The judge accepts exactly the plans whose slot sets keep their distance.
+/// Every plan is judged and pressed as its slots say; of the first, each pair is judged alone too.
 fn judging(t: &mut Tally, rng: &mut Rng, c: &Case, net: &Network) {
-    for _ in 0..3 {
+    for k in 0..3 {
         let c = Case { starts: gen::any_plan(rng, c), ..c.clone() };
-        if let Some(got) = compare::judge(t, &c) {
-            let valid = brute::valid_by_sets(net, &got.plan(c.n));
-            t.check("the judge's 0 is 001's validity", &c, (got.answer.number == 0) == valid);
+        clashes::by_slots(t, &c, net);
+        if k == 0 {
+            clashes::each_pair(t, &c, net);
         }
     }
 }
@@ -89,7 +90,7 @@ fn packing(t: &mut Tally, rng: &mut Rng, c: &Case, net: &Network, best: usize) {
 /// Pressing gives every path the least start that it has in any plan of the same sides.
 fn pressing(t: &mut Tally, c: &Case, net: &Network) {
     let Some(got) = compare::press(t, c) else { return };
-    let before: Vec<usize> = c.starts[..c.n].iter().map(|&s| usize::from(s)).collect();
+    let before = c.plan();
     let after = got.plan(c.n);
     sound(t, "a pressed plan is valid", c, net, &got);
     t.check("pressing keeps the sides", c, brute::same_sides(net, &before, &after));
