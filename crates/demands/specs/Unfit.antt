@@ -218,3 +218,14 @@ invented-unfit program meets n lent order starts seed rounds done invented = inv
         → sum (λ i. cond (ltb (runAfter n lent order starts seed (suc i) .highest) (runAfter n lent order starts seed i .highest)) 1 0) k
         ≡ sum (λ i. cond (ltb (program (n, lent, order, starts, seed, suc i) .answer .highest) (program (n, lent, order, starts, seed, i) .answer .highest)) 1 0) k
     sums k l = sum-same _ _ k (λ i g. rw (after (suc i) (omega arith), after i (omega arith)))
+
+-- (6) A judging that says one number of slots, 0 or another, wherever it answers 8
+pub constant-short-unfit : (program : ℕ × Lent × Table → Fault) → Meets program judgingOf
+    → (constant : ℕ) → ((g : ℕ × Lent × Table) → program g .number ≡ 8 → program g .short ≡ constant) → ⊥
+constant-short-unfit program meets constant same =
+    omega (arith, said (three 5 5 20) (entry 7 differs), said (three 9 5 20) (entry 9 differs), entry 8 differs, entry 10 differs)
+  where
+    said : (starts : Table) → judging 3 netT starts .number ≡ 8 → judging 3 netT starts .short ≡ constant
+    said starts z =
+        sym (ap (λ (f : Fault). f .short) (meets (3, netT, starts)))
+        ∙ same (3, netT, starts) (ap (λ (f : Fault). f .number) (meets (3, netT, starts)) ∙ z)

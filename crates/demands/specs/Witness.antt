@@ -58,7 +58,8 @@ unfolding withGuard widthsT guardsT netT three cleared first found firstRow foun
 betterT = refl
 
 -- two orders of T pack to different highest slots and different starts, a plan of T is pressed to another,
--- and the second round improves what the first has improved
+-- the second round improves what the first has improved, and two plans of T are short of different numbers of
+-- slots
 pub differs :
     (packing 3 netT (three 0 1 2) (three 0 0 0) .answer .highest
     ∷ packing 3 netT (three 1 0 2) (three 0 0 0) .answer .highest
@@ -67,7 +68,11 @@ pub differs :
     ∷ at (pressing 3 netT (three 20 10 30) .tables) 0
     ∷ improving 3 netT (three 2 1 0) (three 0 0 0) 1 1 .answer .highest
     ∷ improving 3 netT (three 2 1 0) (three 0 0 0) 1 2 .answer .highest
+    ∷ judging 3 netT (three 5 5 20) .number
+    ∷ judging 3 netT (three 5 5 20) .short
+    ∷ judging 3 netT (three 9 5 20) .number
+    ∷ judging 3 netT (three 9 5 20) .short
     ∷ [])
-    ≡ 12 ∷ 10 ∷ 1 ∷ 6 ∷ 6 ∷ 11 ∷ 10 ∷ []
+    ≡ 12 ∷ 10 ∷ 1 ∷ 6 ∷ 6 ∷ 11 ∷ 10 ∷ 8 ∷ 3 ∷ 8 ∷ 1 ∷ []
 unfolding withGuard widthsT guardsT netT three cleared first found firstRow foundPair largest least sum highest isLower short tooClose placed reach lowest packed height picked choose arranged pressed touches opposite marks isHigh sameMark hasSides twoSided lowSide draw drawnPlace swapped stateAfter tried round rounds improved leastGuard floor refuseIf _orElse_ scan square countFault sizeFault orderFault startFault clashFault sidesFault roundsFault listFault networkFault networkSizes lentFault planSizes judgeFault packFault twoSidesFault planFault improveFault floorFault unless judging refusedPacked donePacked packing refusedPressed donePressed pressing siding refusedPlanned donePlanned doneImproved improving flooring then word isDigit isLabelByte run label isPlain valueFrom number spell numeral isRow find bytesFrom putRow follow lines lastField countLine pathLine guardLine pathMeans pathStep guardCell guardMeans guardStep startMeans startStep counted after ended startsPart guardsPart sheetFrom labelOf badLabel labelTwice isPair pairs hasPlan joinFrom countText pathText guardText pathsText guardsText startsText sheetText labelSizes sheetSizes writeFault donePlan planning readOutcome reading writing refusalText plannedText printed comparing packedAnswer
 differs = refl
