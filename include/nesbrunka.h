@@ -27,9 +27,10 @@
  *   - The library keeps no state and allocates nothing, and needs nothing but memset. Calls on
  *     different tables may run at the same time.
  *
- * Answers. `number` is NESBRUNKA_DONE or the number of a refusal, `place` says where. A refused call
- * changes no table, and its other numbers are 0; but nesbrunka_read, unless it refuses a size,
- * clears its four tables: guards 255, all else 0. Each call says below what it tests, in its order.
+ * Answers. `number` is NESBRUNKA_DONE or the number of a refusal, `place` says where. A refused
+ * call changes no table, and its other numbers are 0, but for `short_` beside
+ * NESBRUNKA_REFUSED_CLASH; and nesbrunka_read, unless it refuses a size, clears its four tables:
+ * guards 255, all else 0. Each call says below what it tests, in its order.
  */
 #ifndef NESBRUNKA_H
 #define NESBRUNKA_H
@@ -39,7 +40,7 @@
 
 #define NESBRUNKA_VERSION "0.10.0"
 #define NESBRUNKA_VERSION_MAJOR 0
-#define NESBRUNKA_VERSION_MINOR 9
+#define NESBRUNKA_VERSION_MINOR 10
 #define NESBRUNKA_VERSION_PATCH 0
 
 #ifdef __cplusplus
@@ -85,7 +86,7 @@ enum {
     NESBRUNKA_REFUSED_ENTRY = 6,
     /* a start outside 1 to 16,384; path or line */
     NESBRUNKA_REFUSED_START = 7,
-    /* a conflicting pair is too close; the cell above the diagonal. `short_` says by how many slots */
+    /* a conflicting pair is too close, by `short_` slots; the cell above the diagonal */
     NESBRUNKA_REFUSED_CLASH = 8,
     /* the network has no two sides; 0 */
     NESBRUNKA_REFUSED_NO_SIDES = 9,
@@ -188,14 +189,16 @@ size_t nesbrunka_better(size_t n,
                         const uint8_t *first, size_t first_length,
                         const uint8_t *second, size_t second_length);
 
-/* The two-sided order, the low paths first, and how many these are. Tests 2, 1, 3, 4, 5, 9. Writes the first n entries of the order. */
+/* The two-sided order, the low paths first, and how many these are. Tests 2, 1, 3, 4, 5, 9. Writes
+   the first n entries of the order. */
 nesbrunka_sided nesbrunka_two_sides(size_t n,
                                     const uint16_t *widths, size_t widths_length,
                                     const uint8_t *guards, size_t guards_length,
                                     uint8_t *order, size_t order_length);
 
-/* Plans: where there are two sides the best plan outright, else the greedy order, improved. Tests 2, 1, 3, 4, 5, 10; what stands in the order and the starts before is not
-   tested. Writes the first n entries of the order and the first n starts. */
+/* Plans: where there are two sides the best plan outright, else the greedy order, improved. Tests
+   2, 1, 3, 4, 5, 10; what stands in the order and the starts before is not tested. Writes the first
+   n entries of the order and the first n starts. */
 nesbrunka_planned nesbrunka_plan(size_t n,
                                  const uint16_t *widths, size_t widths_length,
                                  const uint8_t *guards, size_t guards_length,
@@ -204,8 +207,8 @@ nesbrunka_planned nesbrunka_plan(size_t n,
                                  uint32_t seed, size_t rounds);
 
 /* Improves an order: each round tries one swap of two drawn places, and undoes it unless the
-   highest slot falls. Tests 2, 1, 3, 4, 5, 6, 10. Writes the
-   first n entries of the order and the first n starts. */
+   highest slot falls. Tests 2, 1, 3, 4, 5, 6, 10. Writes the first n entries of the order and the
+   first n starts. */
 nesbrunka_planned nesbrunka_improve(size_t n,
                                     const uint16_t *widths, size_t widths_length,
                                     const uint8_t *guards, size_t guards_length,
@@ -213,7 +216,8 @@ nesbrunka_planned nesbrunka_improve(size_t n,
                                     uint16_t *starts, size_t starts_length,
                                     uint32_t seed, size_t rounds);
 
-/* The floor of a list of 1 to 8 paths, each two in conflict: every valid plan reaches it. Tests 2, 1, 3, 4, 5, 15. Writes nothing. */
+/* The floor of a list of 1 to 8 paths, each two in conflict: every valid plan reaches it. Tests
+   2, 1, 3, 4, 5, 15. Writes nothing. */
 nesbrunka_floored nesbrunka_floor(size_t n,
                                   const uint16_t *widths, size_t widths_length,
                                   const uint8_t *guards, size_t guards_length,

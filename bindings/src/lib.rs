@@ -13,10 +13,11 @@
 //! | labels | [`LABELS`] | [`LABEL`] bytes a path, filled at the end with zero bytes |
 //!
 //! Each answer has a number, [`DONE`] or one of the refusals below, and its place; the other
-//! numbers of a refused answer are 0. A refusal leaves every table as it was, except that those
-//! of [`read`] other than [`REFUSED_SIZE`] leave its four tables cleared: widths and starts 0,
-//! guards 255, labels 0. Cells of index n or more are not tested, and calls other than [`read`]
-//! leave them as they are. The library keeps no state and allocates nothing.
+//! numbers of a refused answer are 0, but for `short` beside [`REFUSED_CLASH`]. A refusal leaves
+//! every table as it was, except that those of [`read`] other than [`REFUSED_SIZE`] leave its four
+//! tables cleared: widths and starts 0, guards 255, labels 0. Cells of index n or more are not
+//! tested, and calls other than [`read`] leave them as they are. The library keeps no state and
+//! allocates nothing.
 //!
 //! ```
 //! use nesbrunka::{plan, CELLS, DONE, NO_CONFLICT, PATHS};
