@@ -50,8 +50,8 @@ pub record Valid (net : Net) (n : ℕ) (plan : ℕ → ℕ) : Type 0 where
 unfoldable pub isLower : (ℕ → ℕ) → ℕ → ℕ → Bool
 isLower plan i j = ltb (plan i) (plan j) || (eqb (plan i) (plan j) && ltb i j)
 
--- how many slots short a pair is: end + guard + 1 of the lower path minus the start of the other, 0 if that is
--- not positive
+-- how many slots short a pair is: so many as lie between the upper path's start and the first slot past the
+-- lower one and their guard; 0 where it starts there or higher
 unfoldable pub short : Net → (ℕ → ℕ) → ℕ → ℕ → ℕ
 short net plan i j = cond (isLower plan i j) (past net i j (plan i) - plan j) (past net j i (plan j) - plan i)
 
