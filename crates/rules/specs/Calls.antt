@@ -1,5 +1,6 @@
 -- RULES 16: for each public call one definition from what it is given to all that it leaves behind. A refused
--- call changes no table, but for the reader (RULES 14), and its other numbers are 0. Assumes nothing.
+-- call changes no table, but for the reader (RULES 14), and its other numbers are 0, but for the slots short
+-- of 8. Assumes nothing.
 use Prim.Native.Nat.{ℕ}
 use mathlib.Core.Bool.{Bool, cond}
 use mathlib.Core.List.{List, [], _++_}
