@@ -20,7 +20,7 @@ use Rattle.rules.specs.Sides.{isHigh, hasSides, twoSided}
 use Rattle.rules.specs.Planning.{startNext, greedy}
 use Rattle.rules.specs.Writing.{hasPlan, joinFrom, countText, pathText, pathsText, guardsText, startsText, sheetText}
 use Rattle.rules.specs.Calls.{Left, left, reading, donePlanned, doneImproved, donePlan, planning, writing}
-use Rattle.rules.specs.Program.{refusalText, plannedText, printed}
+use Rattle.rules.specs.Program.{refusalText, plannedText, onSheet, printed}
 use Rattle.table_laws.specs.Scans.{found-at}
 use Rattle.table_laws.specs.Tables.{at-other, cleared-length}
 use Rattle.plan_laws.specs.Arranged.{arranged-order, arranged-length}
@@ -95,7 +95,7 @@ own-tables = record { labelsSize = cleared-length 1024 0; widthsSize = cleared-l
 
 -- refused: one line, with the number and the line
 pub printed-refused : (input : List ℕ) → inputRead input .answer .number ≢ 0 → printed input ≡ refusalText (inputRead input .answer .number) (inputRead input .answer .place)
-unfolding printed
+unfolding printed onSheet
 printed-refused input z = rw (ne-eqb (inputRead input .answer .number) 0 z)
 
 pub printed-halt : (input : List ℕ) (x y : ℕ) → SheetWrong input x y → printed input ≡ refusalText x y
@@ -162,7 +162,7 @@ module _ (input : List ℕ) (read : inputRead input .answer .number ≡ 0) where
   program-writes = room-enough n labels lent plannedStarts (cleared 45489 0) planned-writable (omega (arith, cleared-length 45489 0))
 
   pub printed-sheet : printed input ≡ sheetText n labels lent plannedStarts
-  unfolding printed plannedText
+  unfolding printed onSheet plannedText
   printed-sheet = rw (eq-eqb (inputRead input .answer .number) 0 read) (written-sheet n labels lent plannedStarts (cleared 45489 0) program-writes)
 
   -- the plan is there, and the text is not empty

@@ -14,16 +14,18 @@ use Rattle.rules.specs.declared.Planned.{Planned}
 use Rattle.rules.specs.declared.Floored.{Floored}
 use Rattle.rules.specs.declared.SheetRead.{SheetRead}
 use Rattle.rules.specs.declared.SheetWritten.{SheetWritten}
+use Rattle.rules.specs.declared.Why.{Why}
 use Rattle.rules.specs.Tables.{at, cleared, Lent, clearedNetwork}
 use Rattle.rules.specs.Plan.{Net, netOf, highest}
 use Rattle.rules.specs.Packing.{lowest, packed}
 use Rattle.rules.specs.Pressing.{pressed}
+use Rattle.rules.specs.Reason.{chain, down, last}
 use Rattle.rules.specs.Sides.{hasSides, isHigh, twoSided, lowSide}
 use Rattle.rules.specs.Planning.{Run, greedy, improved}
 use Rattle.rules.specs.Floor.{floor}
 use Rattle.rules.specs.Sheet.{Section, halt, done, sheetFrom}
 use Rattle.rules.specs.Writing.{sheetText}
-use Rattle.rules.specs.Numbers.{judgeFault, packFault, twoSidesFault, planFault, improveFault, floorFault, sheetSizes, writeFault}
+use Rattle.rules.specs.Numbers.{judgeFault, packFault, whyFault, twoSidesFault, planFault, improveFault, floorFault, sheetSizes, writeFault}
 
 -- what a call leaves behind: its answer, and what then stands in the tables that it may write
 pub record Left (A T : Type 0) : Type 0 where
@@ -64,6 +66,19 @@ unfoldable pub pressing : ℕ → Lent → List ℕ → Left Pressed (List ℕ)
 pressing n lent starts =
     unless (judgeFault n lent starts) (refusedPressed starts)
     (donePressed (netOf lent) n (pressed (netOf lent) n starts))
+
+-- why(n, widths, guards, starts, path, chain), RULES 25, which writes the chain, and nothing past its length
+unfoldable pub refusedWhy : List ℕ → Fault → Left Why (List ℕ)
+refusedWhy table f = left (record { number = f .number; place = f .place; short = f .short; length = 0; down = 0 }) table
+
+unfoldable pub doneWhy : Net → (ℕ → ℕ) → ℕ → ℕ → List ℕ → Left Why (List ℕ)
+doneWhy net plan n path table =
+    let c = chain net plan n path in
+    left (record { number = 0; place = 0; short = 0; length = length c; down = down net plan n (last c) }) (c ++ drop (length c) table)
+
+unfoldable pub explaining : ℕ → Lent → List ℕ → ℕ → List ℕ → Left Why (List ℕ)
+explaining n lent starts path table =
+    unless (whyFault n lent starts path table) (refusedWhy table) (doneWhy (netOf lent) (at starts) n path table)
 
 -- two_sides(n, widths, guards, order), which writes the order
 unfoldable pub siding : ℕ → Lent → List ℕ → Left Sided (List ℕ)

@@ -10,6 +10,8 @@ pub mod Pressing
 pub mod Sides
 pub mod Planning
 pub mod Floor
+-- Why a path stands where it stands: RULES 25
+pub mod Reason
 -- The sheet: RULES 13 to 15
 pub mod Text
 pub mod Sheet
@@ -20,8 +22,10 @@ pub mod Refusing
 -- The calls, and all that each one leaves behind: RULES 16, and 11
 pub mod Calls
 pub mod Better
--- The plan program: RULES 19
+-- The plan program, and the ask program: RULES 19 and 26
 pub mod Program
--- The figures: RULES 20
+pub mod Asking
+-- The figures: RULES 20, 25 and 26
 pub mod Figures
 pub mod Worked
+pub mod Asked

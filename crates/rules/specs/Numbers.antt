@@ -74,6 +74,10 @@ badEntry n order k = leb n (at order k) || placed (at order) k (at order k)
 unfoldable pub orderFault : ℕ → List ℕ → Fault
 orderFault n order = scan 6 (badEntry n order) n
 
+-- 6, of one path that is asked for: no path has that number
+unfoldable pub pathFault : ℕ → ℕ → Fault
+pathFault n path = refuseIf (leb n path) 6 0
+
 -- 7: a start outside 1 to 16,384
 abbrev pub badStart : List ℕ → ℕ → Bool
 badStart starts k = outside 1 16384 (at starts k)
@@ -120,13 +124,18 @@ lentFault n lent sizes = networkSizes lent orElse sizes orElse networkFault n le
 unfoldable pub judgeFault : ℕ → Lent → List ℕ → Fault
 judgeFault n lent starts = lentFault n lent (sizeFault starts 128) orElse startFault n starts orElse clashFault n (netOf lent) starts
 
--- 2, of an order and a table of starts
+-- 2, of an order or a chain and a table of starts
 unfoldable pub planSizes : List ℕ → List ℕ → Fault
 planSizes order starts = sizeFault order 128 orElse sizeFault starts 128
 
 -- packing
 unfoldable pub packFault : ℕ → Lent → List ℕ → List ℕ → Fault
 packFault n lent order starts = lentFault n lent (planSizes order starts) orElse orderFault n order
+
+-- why a path stands where it stands
+unfoldable pub whyFault : ℕ → Lent → List ℕ → ℕ → List ℕ → Fault
+whyFault n lent starts path chain =
+    lentFault n lent (planSizes chain starts) orElse startFault n starts orElse clashFault n (netOf lent) starts orElse pathFault n path
 
 -- the two-sided call
 unfoldable pub twoSidesFault : ℕ → Lent → List ℕ → Fault

@@ -19,10 +19,15 @@ plannedText n labels lent starts =
     let written = writing n labels lent (planned .tables .1) (cleared 45489 0) in
     take (written .answer .length) (written .tables)
 
--- from the input to what is printed
-unfoldable pub printed : List ℕ → List ℕ
-printed input =
+-- what a program makes of its input: it reads a sheet into tables of its own, and then makes something of the
+-- refusal, or of what it read
+unfoldable pub onSheet : (ℕ → ℕ → List ℕ) → (ℕ → List ℕ → Lent → List ℕ → List ℕ) → List ℕ → List ℕ
+onSheet refused made input =
     let sheet = reading input (cleared 1024 0) (lend (cleared 128 0) (cleared 16384 0)) (cleared 128 0) in
     cond (eqb (sheet .answer .number) 0)
-    (plannedText (sheet .answer .n) (sheet .tables .0) (sheet .tables .1) (sheet .tables .2))
-    (refusalText (sheet .answer .number) (sheet .answer .place))
+    (made (sheet .answer .n) (sheet .tables .0) (sheet .tables .1) (sheet .tables .2))
+    (refused (sheet .answer .number) (sheet .answer .place))
+
+-- from the input to what is printed
+unfoldable pub printed : List ℕ → List ℕ
+printed input = onSheet refusalText plannedText input

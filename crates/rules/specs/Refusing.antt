@@ -82,6 +82,10 @@ mirrorTest n guards = cells 5 n (λ i j. (i < j) × (at guards (cell i j) ≢ at
 abbrev pub entryTest : ℕ → List ℕ → Test
 entryTest n order = each 6 n (λ k. (n ≤ at order k) ⊎ ((i : ℕ) × (i < k) × (at order i ≡ at order k)))
 
+-- 6, of one path that is asked for: no path has that number
+abbrev pub pathTest : ℕ → ℕ → Test
+pathTest n path = once 6 (n ≤ path)
+
 -- 7: a start outside 1 to 16,384
 abbrev pub startTest : ℕ → List ℕ → Test
 startTest n starts = each 7 n (λ k. Outside 1 16384 (at starts k))
@@ -160,6 +164,10 @@ lentTests n lent sizes = sizeTest (lent .widths) 128 ∷ sizeTest (lent .guards)
 -- judging and pressing
 unfoldable pub judgeTests : ℕ → Lent → List ℕ → List Test
 judgeTests n lent starts = lentTests n lent (sizeTest starts 128 ∷ []) ++ (startTest n starts ∷ clashTest n (netOf lent) starts ∷ [])
+
+unfoldable pub whyTests : ℕ → Lent → List ℕ → ℕ → List ℕ → List Test
+whyTests n lent starts path chain =
+    lentTests n lent (sizeTest chain 128 ∷ sizeTest starts 128 ∷ []) ++ (startTest n starts ∷ clashTest n (netOf lent) starts ∷ pathTest n path ∷ [])
 
 unfoldable pub packTests : ℕ → Lent → List ℕ → List ℕ → List Test
 packTests n lent order starts = lentTests n lent (sizeTest order 128 ∷ sizeTest starts 128 ∷ []) ++ (entryTest n order ∷ [])

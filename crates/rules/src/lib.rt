@@ -86,6 +86,17 @@ pub struct Pressed {
     pub highest: usize,
 }
 
+// Why a path stands where it stands: `length` paths of the chain stand in their table, and the last of them
+// can come down by `down` slots, 0 in slot 1.
+#[repr(C)]
+pub struct Why {
+    pub number: usize,
+    pub place: usize,
+    pub short: usize,
+    pub length: usize,
+    pub down: usize,
+}
+
 // The two sides: the order stands in its table, `low` is how many paths are low.
 #[repr(C)]
 pub struct Sided {
