@@ -17,7 +17,7 @@ use Rattle.table_laws.specs.Scans.{sum-ge, least-le}
 use Rattle.table_laws.specs.Orders.{sum-order}
 use Rattle.plan_laws.specs.Arranged.{arranged-order, arranged-least}
 use Rattle.plan_laws.specs.Heights.{highest-ge}
-use Rattle.demands.specs.Press.{either, clear-lt}
+use Rattle.plan_laws.specs.Apart.{either, clear-lt}
 
 pub enough : (k : ℕ) → k ≤ length (replicate {A = ℕ} k 0)
 enough k = omega (arith, length-replicate {A = ℕ} k 0)

@@ -1,5 +1,6 @@
 -- plans
 pub mod Press
+pub mod Reason
 pub mod Mirror
 pub mod Floor
 pub mod TwoSided

@@ -10,6 +10,7 @@ use lib.Seq.{ext-getD}
 use Rattle.rules.specs.Tables.{at, cleared}
 use Rattle.rules.specs.Plan.{Net, Conflict, Clear, Valid}
 use Rattle.plan_laws.specs.Good.{Good}
+use Rattle.plan_laws.specs.Apart.{either, clear-lt, lower-clear}
 use Rattle.rules.specs.Pressing.{SameSides, byStart, pressed}
 use Rattle.rules.specs.Packing.{lowest, Order}
 use Rattle.table_laws.specs.Tables.{cleared-length}
@@ -20,35 +21,12 @@ use Rattle.plan_laws.specs.Lowest.{lowest-local}
 use Rattle.plan_laws.specs.Plans.{Keeps, packed-valid, packed-least, respects-keeps, respected}
 
 module _ (net : Net) (n : ℕ) (good : Good net n) where
-  -- of two conflicting paths of a valid plan one is clear below the other, and so lower
-  pub either : {q : ℕ → ℕ} → Valid net n q → (i j : ℕ) → i < n → j < n → Conflict net i j → Clear net q i j ⊎ Clear net q j i
-  either {q} v i j h l c = go (decLt i j) (decLt j i)
-    where
-      flip : Clear net q j i ⊎ Clear net q i j → Clear net q i j ⊎ Clear net q j i
-      flip (inl x) = inr x
-      flip (inr x) = inl x
-
-      go : Dec (i < j) → Dec (j < i) → Clear net q i j ⊎ Clear net q j i
-      go (yes x) d = v .apart i j x l c
-      go (no x) (yes y) = flip (v .apart j i y h (omega (arith, good .mirrored i j h l)))
-      go (no x) (no y) = let e : i ≡ j = omega arith in absurd (omega (arith, good .alone j l, subst (λ x. net .guard x j < 255) e c))
-
-  pub clear-lt : (q : ℕ → ℕ) (i j : ℕ) → i < n → Clear net q i j → q i < q j
-  clear-lt q i j h x = omega (arith, good .wide i h)
-
-  pub lower-clear : {q : ℕ → ℕ} → Valid net n q → (i j : ℕ) → i < n → j < n → Conflict net i j → q i < q j → Clear net q i j
-  lower-clear {q} v i j h l c lt = go (either v i j h l c)
-    where
-      go : Clear net q i j ⊎ Clear net q j i → Clear net q i j
-      go (inl x) = x
-      go (inr x) = absurd (omega (arith, clear-lt q j i l x))
-
   pub sides-sym : {p q : ℕ → ℕ} → Valid net n p → Valid net n q → SameSides net n p q → SameSides net n q p
-  sides-sym {p} {q} v w s i j h l c lt = go (either v i j h l c)
+  sides-sym {p} {q} v w s i j h l c lt = go (either net n good v i j h l c)
     where
       go : Clear net p i j ⊎ Clear net p j i → p i < p j
-      go (inl x) = clear-lt p i j h x
-      go (inr x) = absurd (omega (arith, s j i l h (omega (arith, good .mirrored i j h l)) (clear-lt p j i l x)))
+      go (inl x) = clear-lt net n good p i j h x
+      go (inr x) = absurd (omega (arith, s j i l h (omega (arith, good .mirrored i j h l)) (clear-lt net n good p j i l x)))
 
   module _ (o : List ℕ) (room : n ≤ length o) where
     abbrev pub by : (ℕ → ℕ) → ℕ → ℕ
@@ -63,7 +41,7 @@ module _ (net : Net) (n : ℕ) (good : Good net n) where
 
     -- a valid plan on the sides of q keeps the sides of q's order
     pub by-keeps : {q r : ℕ → ℕ} → Valid net n q → Valid net n r → SameSides net n q r → Keeps net n (by q) r
-    by-keeps {q} {r} v w s i j h l c = go (either v (by q i) (by q j) hi hj c)
+    by-keeps {q} {r} v w s i j h l c = go (either net n good v (by q i) (by q j) hi hj c)
       where
         hi : by q i < n
         hi = by-order q .inside i (omega arith)
@@ -72,8 +50,8 @@ module _ (net : Net) (n : ℕ) (good : Good net n) where
         hj = by-order q .inside j l
 
         go : Clear net q (by q i) (by q j) ⊎ Clear net q (by q j) (by q i) → Clear net r (by q i) (by q j)
-        go (inl x) = lower-clear w (by q i) (by q j) hi hj c (s (by q i) (by q j) hi hj c (clear-lt q (by q i) (by q j) hi x))
-        go (inr x) = absurd (omega (arith, by-sorted q i j h l, clear-lt q (by q j) (by q i) hj x))
+        go (inl x) = lower-clear net n good w (by q i) (by q j) hi hj c (s (by q i) (by q j) hi hj c (clear-lt net n good q (by q i) (by q j) hi x))
+        go (inr x) = absurd (omega (arith, by-sorted q i j h l, clear-lt net n good q (by q j) (by q i) hj x))
 
     -- of a plan r that keeps the sides of q's order
     keeps-sides : (q r : ℕ → ℕ) → Keeps net n (by q) r → SameSides net n q r
@@ -86,7 +64,7 @@ module _ (net : Net) (n : ℕ) (good : Good net n) where
         go a b h l c lt = then (decLt a b) (decLt b a)
           where
             then : Dec (a < b) → Dec (b < a) → r (by q a) < r (by q b)
-            then (yes x) d = clear-lt r (by q a) (by q b) (by-order q .inside a h) (k a b x l c)
+            then (yes x) d = clear-lt net n good r (by q a) (by q b) (by-order q .inside a h) (k a b x l c)
             then (no x) (yes y) = absurd (omega (arith, by-sorted q b a y h))
             then (no x) (no y) = let e : a ≡ b = omega arith in absurd (omega (arith, ap (λ z. q (by q z)) e))
 

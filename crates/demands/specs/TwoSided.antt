@@ -19,7 +19,7 @@ use Rattle.plan_laws.specs.Pack.{Packs}
 use Rattle.plan_laws.specs.Arranged.{arranged-order, arranged-least}
 use Rattle.plan_laws.specs.Lowest.{lowest-local, lowest-le}
 use Rattle.plan_laws.specs.Plans.{everywhere, packs, packed-valid}
-use Rattle.demands.specs.Press.{either}
+use Rattle.plan_laws.specs.Apart.{either}
 use Rattle.plan_laws.specs.Heights.{highest-ge, highest-le}
 
 unfoldable pub flip : Bool → Bool → Bool

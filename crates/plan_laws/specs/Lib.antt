@@ -4,12 +4,14 @@ pub mod Pack
 pub mod Lowest
 -- plans
 pub mod Good
+pub mod Apart
 pub mod Plans
 pub mod Heights
 pub mod Bound
 pub mod Short
 pub mod Judge
 pub mod Fits
+pub mod Reason
 -- what an answer of 0 means
 pub mod Answers
 -- the loops of the code

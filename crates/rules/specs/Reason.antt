@@ -61,9 +61,9 @@ last c = at c (length c - 1)
 pub record Chain (net : Net) (plan : ℕ → ℕ) (n k : ℕ) (c : List ℕ) : Type 0 where
   pub some : 1 ≤ length c
   pub from : at c 0 ≡ k
-  pub above : (i : ℕ) → i + 1 < length c → plan (at c i) ≢ net .low (at c i)
-  pub links : (i : ℕ) → i + 1 < length c → HoldsUp net plan n (at c i) (at c (i + 1))
-  pub lowest : (i j : ℕ) → i + 1 < length c → HoldsUp net plan n (at c i) j → at c (i + 1) ≤ j
+  pub above : (i : ℕ) → suc i < length c → plan (at c i) ≢ net .low (at c i)
+  pub links : (i : ℕ) → suc i < length c → HoldsUp net plan n (at c i) (at c (suc i))
+  pub lowest : (i j : ℕ) → suc i < length c → HoldsUp net plan n (at c i) j → at c (suc i) ≤ j
   pub ends : (plan (last c) ≡ net .low (last c)) ⊎ ((j : ℕ) → HoldsUp net plan n (last c) j → ⊥)
 
 -- path k can stand in slot s, the paths below it held: not under its lowest start, and each of them is still
@@ -74,4 +74,4 @@ CanStand net plan n k s =
 
 -- the widths and the guards along a chain, but for the first path's width
 unfoldable pub along : Net → List ℕ → ℕ
-along net c = sum (λ i. net .width (at c (i + 1)) + net .guard (at c (i + 1)) (at c i)) (length c - 1)
+along net c = sum (λ i. net .width (at c (suc i)) + net .guard (at c (suc i)) (at c i)) (length c - 1)

@@ -1,7 +1,7 @@
 -- The laws of the one scan, of the largest, the least and the sum, each once. Assumes nothing.
 use Prim.Native.Nat.{ℕ, zero, suc, _+_, _*_, _≤_, _<_, max, min, suc-le-suc}
 use mathlib.Core.Path.{_≡_, refl, sym, ap, _∙_}
-use mathlib.Core.Logic.{_≢_}
+use mathlib.Core.Logic.{_≢_, _⊎_, inl, inr}
 use mathlib.Core.Bool.{Bool, true, false, _||_, true≢false}
 use native.Mathlib.Omega.{arith}
 use native.Mathlib.Decide.{decLt}
@@ -116,12 +116,24 @@ unfolding largest
 largest-le f zero x h = omega arith
 largest-le f (suc n) x h = omega (arith, largest-le f n x (λ k l. h k (omega arith)), h n (omega arith))
 
--- the least
+-- it is reached, or there is none above 0
+pub largest-at : (f : ℕ → ℕ) (n : ℕ) → (largest f n ≡ 0) ⊎ ((k : ℕ) × (k < n) × (f k ≡ largest f n))
+unfolding largest
+largest-at f zero = inl refl
+largest-at f (suc n) = go (decLt (largest f n) (f n)) (largest-at f n)
+  where
+    go : Dec (largest f n < f n) → (largest f n ≡ 0) ⊎ ((k : ℕ) × (k < n) × (f k ≡ largest f n))
+        → (max (largest f n) (f n) ≡ 0) ⊎ ((k : ℕ) × (k < suc n) × (f k ≡ max (largest f n) (f n)))
+    go (yes l) h = inr (n, omega arith, omega arith)
+    go (no l) (inl e) = inl (omega arith)
+    go (no l) (inr (k, g, e)) = inr (k, omega arith, omega arith)
+
 pub largest-same : (f g : ℕ → ℕ) (n : ℕ) → ((k : ℕ) → k < n → f k ≡ g k) → largest f n ≡ largest g n
 unfolding largest
 largest-same f g zero h = refl
 largest-same f g (suc n) h = rw (largest-same f g n (λ k l. h k (omega arith)), h n (omega arith))
 
+-- the least
 pub least-le : (d : ℕ) (f : ℕ → ℕ) (n k : ℕ) → k < n → least d f n ≤ f k
 unfolding least
 least-le d f zero k l = absurd (omega arith)

@@ -1,0 +1,264 @@
+-- The chain of a path (RULES 25) is what its statement says, and nothing else is; and how far its last path can
+-- come down. Assumes nothing.
+use Prim.Native.Nat.{ℕ, zero, suc, _+_, _-_, _≤_, _<_, max}
+use mathlib.Core.Path.{_≡_, refl, sym, ap, subst, _∙_}
+use mathlib.Core.Logic.{_≢_, _⊎_, inl, inr}
+use mathlib.Core.Bool.{Bool, true, false, cond, not, _&&_, _||_, true≢false}
+use mathlib.Core.List.{List, [], _∷_}
+use native.Mathlib.Omega.{arith}
+use native.Mathlib.Decide.{decLt, decLe, ℕ-discrete}
+use native.Mathlib.Numerals.{add-one}
+use lib.ListN.{length}
+use lib.Dec.{ltb, eqb}
+use borrow.Author.Tests.{eq-eqb, ne-eqb, eqb-true, eqb-false, lt-ltb, le-ltb, ltb-true, ltb-false, not-true, not-false}
+use Rattle.rules.specs.Tables.{at}
+use Rattle.rules.specs.Scan.{first, found, largest, sum}
+use Rattle.rules.specs.Plan.{Net, Conflict, inConflict, end, past, Clear, Valid}
+use Rattle.rules.specs.Reason.{isBelow, holdsUp, link, isLast, chainOf, chain, HoldsUp, last, Chain}
+use Rattle.table_laws.specs.Scans.{First, none, some, first-is, found-at, found-first, found-not, found-none, largest-ge, largest-le, sum-suc}
+
+-- a path below, and one that holds up, by their parts
+module _ (net : Net) (plan : ℕ → ℕ) (k j : ℕ) where
+  pub below-parts : isBelow net plan k j ≡ true → Conflict net j k × (plan j < plan k)
+  unfolding isBelow
+  below-parts = go (inConflict net j k) refl (ltb (plan j) (plan k)) refl
+    where
+      go : (a : Bool) → inConflict net j k ≡ a → (b : Bool) → ltb (plan j) (plan k) ≡ b → (a && b) ≡ true → Conflict net j k × (plan j < plan k)
+      go true e true f z = (ltb-true _ _ e, ltb-true _ _ f)
+      go true e false f z = absurd (true≢false (sym z))
+      go false e b f z = absurd (true≢false (sym z))
+
+  pub parts-below : Conflict net j k → plan j < plan k → isBelow net plan k j ≡ true
+  unfolding isBelow
+  parts-below c l = rw (lt-ltb (net .guard j k) 255 c, lt-ltb (plan j) (plan k) l)
+
+  pub holds-parts : (n : ℕ) → j < n → holdsUp net plan k j ≡ true → HoldsUp net plan n k j
+  unfolding holdsUp
+  holds-parts n l = go (isBelow net plan k j) refl (eqb (past net j k (plan j)) (plan k)) refl
+    where
+      go : (a : Bool) → isBelow net plan k j ≡ a → (b : Bool) → eqb (past net j k (plan j)) (plan k) ≡ b → (a && b) ≡ true → HoldsUp net plan n k j
+      go true e true f z = let p = below-parts e in record { path = l; conflict = p .0; lower = p .1; meets = eqb-true _ _ f }
+      go true e false f z = absurd (true≢false (sym z))
+      go false e b f z = absurd (true≢false (sym z))
+
+  pub parts-holds : {n : ℕ} → HoldsUp net plan n k j → holdsUp net plan k j ≡ true
+  unfolding holdsUp
+  parts-holds h = rw (parts-below (h .conflict) (h .lower), eq-eqb (past net j k (plan j)) (plan k) (h .meets))
+
+module _ (net : Net) (plan : ℕ → ℕ) (n : ℕ) where
+  -- a path at which a chain ends, and one at which it goes on
+  pub last-ends : (k : ℕ) → isLast net plan n k ≡ true → (plan k ≡ net .low k) ⊎ ((j : ℕ) → HoldsUp net plan n k j → ⊥)
+  unfolding isLast
+  last-ends k = go (eqb (plan k) (net .low k)) refl (found (holdsUp net plan k) n) refl
+    where
+      go : (a : Bool) → eqb (plan k) (net .low k) ≡ a → (b : Bool) → found (holdsUp net plan k) n ≡ b → (a || not b) ≡ true
+          → (plan k ≡ net .low k) ⊎ ((j : ℕ) → HoldsUp net plan n k j → ⊥)
+      go true e b f z = inl (eqb-true _ _ e)
+      go false e true f z = absurd (true≢false (sym z))
+      go false e false f z = inr (λ j h. true≢false (sym (parts-holds net plan k j h) ∙ found-not (holdsUp net plan k) n f j (h .path)))
+
+  pub record Goes (k : ℕ) : Type 0 where
+    pub above : plan k ≢ net .low k
+    pub holds : HoldsUp net plan n k (link net plan n k)
+    pub lowest : (j : ℕ) → HoldsUp net plan n k j → link net plan n k ≤ j
+
+  pub last-goes : (k : ℕ) → isLast net plan n k ≡ false → Goes k
+  unfolding isLast
+  last-goes k = go (eqb (plan k) (net .low k)) refl (found (holdsUp net plan k) n) refl
+    where
+      go : (a : Bool) → eqb (plan k) (net .low k) ≡ a → (b : Bool) → found (holdsUp net plan k) n ≡ b → (a || not b) ≡ false → Goes k
+      go true e b f z = absurd (true≢false z)
+      go false e false f z = absurd (true≢false z)
+      go false e true f z = unfold link in (pick (first-is (holdsUp net plan k) n))
+        where
+          pick : First (holdsUp net plan k) n (first (holdsUp net plan k) n) → Goes k
+          pick (none r h) = absurd (omega (arith, found-first (holdsUp net plan k) n f .0))
+          pick (some l t h) = unfold link in (record {
+            above = eqb-false _ _ e;
+            holds = holds-parts net plan k (first (holdsUp net plan k) n) n l t;
+            lowest = λ j p. least j p (decLt j (first (holdsUp net plan k) n));
+          })
+            where
+              least : (j : ℕ) → HoldsUp net plan n k j → Dec (j < first (holdsUp net plan k) n) → first (holdsUp net plan k) n ≤ j
+              least j p (yes x) = absurd (true≢false (sym (parts-holds net plan k j p) ∙ h j x))
+              least j p (no x) = omega arith
+
+  -- for the code: a path on its lowest start, one that nothing holds up, and one that has a link
+  pub ends-low : (k : ℕ) → plan k ≡ net .low k → isLast net plan n k ≡ true
+  unfolding isLast
+  ends-low k e = rw (eq-eqb (plan k) (net .low k) e)
+
+  pub ends-free : (k j : ℕ) → plan k ≢ net .low k → j ≡ link net plan n k → n ≤ j → isLast net plan n k ≡ true
+  unfolding isLast link found
+  ends-free k j ne e l = rw (ne-eqb (plan k) (net .low k) ne, le-ltb (first (holdsUp net plan k) n) n (omega arith))
+
+  pub goes-on : (k j : ℕ) → plan k ≢ net .low k → j ≡ link net plan n k → j < n → isLast net plan n k ≡ false
+  unfolding isLast link found
+  goes-on k j ne e l = rw (ne-eqb (plan k) (net .low k) ne, lt-ltb (first (holdsUp net plan k) n) n (omega arith))
+
+  pub chain-stops : (m k : ℕ) → isLast net plan n k ≡ true → chainOf net plan n (suc m) k ≡ k ∷ []
+  unfolding chainOf
+  chain-stops m k e = rw e
+
+  pub chain-goes : (m k : ℕ) → isLast net plan n k ≡ false → chainOf net plan n (suc m) k ≡ k ∷ chainOf net plan n m (link net plan n k)
+  unfolding chainOf
+  chain-goes m k e = rw e
+
+  -- how many paths start below slot s: so many links are left
+  unfoldable under : ℕ → ℕ → ℕ
+  under s zero = 0
+  under s (suc m) = under s m + cond (ltb (plan m) s) 1 0
+
+  one-most : (s t j : ℕ) → s ≤ t → cond (ltb (plan j) s) 1 0 ≤ cond (ltb (plan j) t) 1 0
+  one-most s t j h = go (decLt (plan j) s) (decLt (plan j) t)
+    where
+      go : Dec (plan j < s) → Dec (plan j < t) → cond (ltb (plan j) s) 1 0 ≤ cond (ltb (plan j) t) 1 0
+      go (yes x) (yes y) = rw (lt-ltb (plan j) s x, lt-ltb (plan j) t y) (omega arith)
+      go (yes x) (no y) = absurd (omega arith)
+      go (no x) d = rw (le-ltb (plan j) s (omega arith)) (omega arith)
+
+  under-rises : (s t m : ℕ) → s ≤ t → under s m ≤ under t m
+  unfolding under
+  under-rises s t zero h = omega arith
+  under-rises s t (suc m) h = omega (arith, under-rises s t m h, one-most s t m h)
+
+  under-falls : (s t m j : ℕ) → s ≤ t → j < m → s ≤ plan j → plan j < t → under s m < under t m
+  unfolding under
+  under-falls s t zero j h l a b = absurd (omega arith)
+  under-falls s t (suc m) j h l a b = go (ℕ-discrete m j) (λ g. under-falls s t m j h g a b)
+    where
+      go : Dec (m ≡ j) → (j < m → under s m < under t m) → under s m + cond (ltb (plan m) s) 1 0 < under t m + cond (ltb (plan m) t) 1 0
+      go (yes e) ih = rw (e, le-ltb (plan j) s a, lt-ltb (plan j) t b) (omega (arith, under-rises s t j h))
+      go (no e) ih = omega (arith, ih (omega arith), one-most s t m h)
+
+  under-most : (s m : ℕ) → under s m ≤ m
+  unfolding under
+  under-most s zero = omega arith
+  under-most s (suc m) = go (ltb (plan m) s) (under-most s m)
+    where
+      go : (b : Bool) → under s m ≤ m → under s m + cond b 1 0 ≤ suc m
+      go true h = omega arith
+      go false h = omega arith
+
+  -- a path does not start below itself
+  under-own : (k m : ℕ) → k < m → under (plan k) m < m
+  under-own k m l = omega (arith, under-falls (plan k) (suc (plan k)) m k (omega arith) l (omega arith) (omega arith), under-most (suc (plan k)) m)
+
+  -- one path more in front of a chain
+  last-longer : (k : ℕ) (c : List ℕ) → 1 ≤ length c → last c ≡ last (k ∷ c)
+  last-longer k [] l = absurd (omega arith)
+  last-longer k (x ∷ c) l =
+      let a : suc (length c) - 1 ≡ length c = omega arith in
+      let b : suc (suc (length c)) - 1 ≡ suc (length c) = omega arith in
+      rw (a, b)
+
+  longer : (k : ℕ) (c : List ℕ) → Goes k → Chain net plan n (link net plan n k) c → Chain net plan n k (k ∷ c)
+  longer k c g h = record {
+    some = omega arith;
+    from = refl;
+    above = λ i l. above i l;
+    links = λ i l. links i l;
+    lowest = λ i j l. lowest i j l;
+    ends = subst (λ x. (plan x ≡ net .low x) ⊎ ((j : ℕ) → HoldsUp net plan n x j → ⊥)) (last-longer k c (h .some)) (h .ends);
+  }
+    where
+      above : (i : ℕ) → suc i < length (k ∷ c) → plan (at (k ∷ c) i) ≢ net .low (at (k ∷ c) i)
+      above zero l = g .above
+      above (suc i) l = h .above i (omega arith)
+
+      links : (i : ℕ) → suc i < length (k ∷ c) → HoldsUp net plan n (at (k ∷ c) i) (at (k ∷ c) (suc i))
+      links zero l = subst (HoldsUp net plan n k) (sym (h .from)) (g .holds)
+      links (suc i) l = h .links i (omega arith)
+
+      lowest : (i j : ℕ) → suc i < length (k ∷ c) → HoldsUp net plan n (at (k ∷ c) i) j → at (k ∷ c) (suc i) ≤ j
+      lowest zero j l p = omega (arith, g .lowest j p, h .from)
+      lowest (suc i) j l p = h .lowest i j (omega arith) p
+
+  alone : (k : ℕ) → isLast net plan n k ≡ true → Chain net plan n k (k ∷ [])
+  alone k e = record {
+    some = omega arith;
+    from = refl;
+    above = λ i l. absurd (omega arith);
+    links = λ i l. absurd (omega arith);
+    lowest = λ i j l. absurd (omega arith);
+    ends = last-ends k e;
+  }
+
+  fewer : (k : ℕ) → Goes k → under (plan (link net plan n k)) n < under (plan k) n
+  fewer k g =
+      let j = link net plan n k in
+      under-falls (plan j) (plan k) n j (omega (arith, g .holds .lower)) (g .holds .path) (omega arith) (g .holds .lower)
+
+  -- so a chain of as many paths as start below it, and one more, is whole
+  whole : (m k : ℕ) → under (plan k) n < m → Chain net plan n k (chainOf net plan n m k)
+  whole zero k l = absurd (omega arith)
+  whole (suc m) k l = go (isLast net plan n k) refl (whole m (link net plan n k))
+    where
+      go : (b : Bool) → isLast net plan n k ≡ b → (under (plan (link net plan n k)) n < m → Chain net plan n (link net plan n k) (chainOf net plan n m (link net plan n k)))
+          → Chain net plan n k (chainOf net plan n (suc m) k)
+      go true e ih = subst (Chain net plan n k) (sym (chain-stops m k e)) (alone k e)
+      go false e ih =
+          let g = last-goes k e in
+          subst (Chain net plan n k) (sym (chain-goes m k e)) (longer k (chainOf net plan n m (link net plan n k)) g (ih (omega (arith, fewer k g, l))))
+
+  pub chain-is : (k : ℕ) → k < n → Chain net plan n k (chain net plan n k)
+  unfolding chain
+  chain-is k l = whole n k (under-own k n l)
+
+  -- it has at most n paths
+  fuel : (m k : ℕ) → length (chainOf net plan n m k) ≤ m
+  unfolding chainOf
+  fuel zero k = omega arith
+  fuel (suc m) k = go (isLast net plan n k) (fuel m (link net plan n k))
+    where
+      go : (b : Bool) → length (chainOf net plan n m (link net plan n k)) ≤ m → length (k ∷ cond b [] (chainOf net plan n m (link net plan n k))) ≤ suc m
+      go true h = omega arith
+      go false h = omega arith
+
+  pub chain-few : (k : ℕ) → length (chain net plan n k) ≤ n
+  unfolding chain
+  chain-few k = fuel n k
+
+  -- each below n
+  pub chain-inside : (k : ℕ) (c : List ℕ) → k < n → Chain net plan n k c → (i : ℕ) → i < length c → at c i < n
+  chain-inside k c l h zero g = omega (arith, h .from)
+  chain-inside k c l h (suc i) g = h .links i g .path
+
+  -- and no other list is the path's chain
+  shorter : (k x : ℕ) (c : List ℕ) → Chain net plan n k (k ∷ x ∷ c) → Chain net plan n x (x ∷ c)
+  shorter k x c h = record {
+    some = omega arith;
+    from = refl;
+    above = λ i l. h .above (suc i) (omega arith);
+    links = λ i l. h .links (suc i) (omega arith);
+    lowest = λ i j l. h .lowest (suc i) j (omega arith);
+    ends = subst (λ y. (plan y ≡ net .low y) ⊎ ((j : ℕ) → HoldsUp net plan n y j → ⊥)) (sym (last-longer k (x ∷ c) (omega arith))) (h .ends);
+  }
+
+  only : (m k : ℕ) (c : List ℕ) → under (plan k) n < m → Chain net plan n k c → c ≡ chainOf net plan n m k
+  only zero k c l h = absurd (omega arith)
+  only (suc m) k [] l h = absurd (omega (arith, h .some))
+  only (suc m) k (y ∷ c) l h = ap (λ z. z ∷ c) (h .from) ∙ go c (isLast net plan n k) refl (subst (λ z. Chain net plan n k (z ∷ c)) (h .from) h) (λ d. only m (link net plan n k) d)
+    where
+      go : (c : List ℕ) (b : Bool) → isLast net plan n k ≡ b → Chain net plan n k (k ∷ c)
+          → ((d : List ℕ) → under (plan (link net plan n k)) n < m → Chain net plan n (link net plan n k) d → d ≡ chainOf net plan n m (link net plan n k))
+          → k ∷ c ≡ chainOf net plan n (suc m) k
+      go [] true e q ih = sym (chain-stops m k e)
+      go [] false e q ih = absurd (stop (q .ends))
+        where
+          stop : (plan k ≡ net .low k) ⊎ ((j : ℕ) → HoldsUp net plan n k j → ⊥) → ⊥
+          stop (inl z) = last-goes k e .above z
+          stop (inr z) = z (link net plan n k) (last-goes k e .holds)
+      go (x ∷ c) true e q ih = absurd (stop (last-ends k e))
+        where
+          stop : (plan k ≡ net .low k) ⊎ ((j : ℕ) → HoldsUp net plan n k j → ⊥) → ⊥
+          stop (inl z) = q .above 0 (omega arith) z
+          stop (inr z) = z x (q .links 0 (omega arith))
+      go (x ∷ c) false e q ih =
+          let g = last-goes k e in
+          let s : x ≡ link net plan n k = omega (arith, g .lowest x (q .links 0 (omega arith)), q .lowest 0 (link net plan n k) (omega arith) (g .holds)) in
+          ap (λ z. k ∷ z) (ih (x ∷ c) (omega (arith, fewer k g, l)) (subst (λ z. Chain net plan n z (x ∷ c)) s (shorter k x c q))) ∙ sym (chain-goes m k e)
+
+  pub chain-only : (k : ℕ) (c : List ℕ) → k < n → Chain net plan n k c → c ≡ chain net plan n k
+  unfolding chain
+  chain-only k c l h = only n k c (under-own k n l) h
