@@ -20,11 +20,11 @@ fn past(s: u16, w: u16, g: u8) -> u16
     s + w - 1 + (g as u16) + 1
 }
 
-// How far a start is below the slot where it would be clear, 0 where it is not.
-fn below(start: u16, clear: u16) -> u16
-    ensures { λ r. ⌜ r ≡ clear - start ⌝ }
+// How far a slot is below another, 0 where it is not.
+pub fn below(slot: u16, other: u16) -> u16
+    ensures { λ r. ⌜ r ≡ other - slot ⌝ }
 {
-    if start < clear { clear - start } else { 0 }
+    if slot < other { other - slot } else { 0 }
 }
 
 // How many slots short two paths with guard g are (RULES 4), at s with width w and at t with width v: the lower

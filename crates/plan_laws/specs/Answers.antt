@@ -8,13 +8,14 @@ use mathlib.Core.List.{List}
 use native.Mathlib.Omega.{arith}
 use lib.ListN.{length}
 use lib.Dec.{ltb, leb, eqb}
-use borrow.Author.Tests.{eq-eqb, ne-eqb, eqb-true, ltb-true, ltb-false, le-ltb, leb-false, not-false}
+use borrow.Author.Tests.{eq-eqb, ne-eqb, eqb-true, ltb-true, ltb-false, le-ltb, leb-false, lt-leb, not-false}
 use Rattle.rules.specs.declared.Fault.{Fault}
 use Rattle.rules.specs.declared.Packed.{Packed}
 use Rattle.rules.specs.declared.Pressed.{Pressed}
 use Rattle.rules.specs.declared.Sided.{Sided}
 use Rattle.rules.specs.declared.Planned.{Planned}
 use Rattle.rules.specs.declared.Floored.{Floored}
+use Rattle.rules.specs.declared.Why.{Why}
 use Rattle.rules.specs.Tables.{at, Lent}
 use Rattle.rules.specs.Limits.{Network, Starts}
 use Rattle.rules.specs.Scan.{found}
@@ -23,8 +24,8 @@ use Rattle.rules.specs.Packing.{Order, lowest, packed}
 use Rattle.rules.specs.Pressing.{pressed}
 use Rattle.rules.specs.Sides.{hasSides, isHigh, twoSided, lowSide}
 use Rattle.rules.specs.Floor.{Clique, floor}
-use Rattle.rules.specs.Numbers.{noFault, refuseIf, _orElse_, outside, sizeFault, badMember, sidesFault, roundsFault, listFault, planSizes, judgeFault, packFault, twoSidesFault, planFault, improveFault, floorFault}
-use Rattle.rules.specs.Calls.{Left, left, unless, judging, refusedPacked, donePacked, packing, refusedPressed, donePressed, pressing, siding, refusedPlanned, donePlanned, doneImproved, improving, donePlan, planning, flooring}
+use Rattle.rules.specs.Numbers.{noFault, refuseIf, _orElse_, outside, sizeFault, badMember, sidesFault, roundsFault, listFault, planSizes, pathFault, judgeFault, whyFault, packFault, twoSidesFault, planFault, improveFault, floorFault}
+use Rattle.rules.specs.Calls.{Left, left, unless, judging, refusedPacked, donePacked, packing, refusedPressed, donePressed, pressing, refusedWhy, doneWhy, explaining, siding, refusedPlanned, donePlanned, doneImproved, improving, donePlan, planning, flooring}
 use Rattle.table_laws.specs.Scans.{found-not}
 use Rattle.table_laws.specs.Faults.{refuse-bad, refuse-not, refuse-clear, or-second, or-clear, or-none, or-past, never-size, never-lent, scan-clear, size-good, size-clear}
 use Rattle.table_laws.specs.Limits.{clear-of, outside-not, order-whole, whole-order, starts-within, within-starts}
@@ -102,6 +103,48 @@ module _ (n : ℕ) (lent : Lent) (starts : List ℕ) where
   pub judgeable-pressing : Judgeable n lent starts → pressing n lent starts ≡ donePressed (netOf lent) n (pressed (netOf lent) n starts)
   unfolding pressing
   judgeable-pressing j = unless-done (judgeFault n lent starts) (refusedPressed starts) _ (clear-judge j)
+
+-- why a path stands where it stands: 6 is its last test
+pub record Explainable (n : ℕ) (lent : Lent) (starts : List ℕ) (path : ℕ) (table : List ℕ) : Type 0 where
+  pub network : Network n lent
+  pub legal : Starts n starts
+  pub valid : Valid (netOf lent) n (at starts)
+  pub inside : path < n
+  pub tableSize : length table ≡ 128
+
+module _ (n : ℕ) (lent : Lent) (starts : List ℕ) (path : ℕ) (table : List ℕ) where
+  pub why-clear : whyFault n lent starts path table .number ≡ 0 → Explainable n lent starts path table
+  unfolding whyFault pathFault
+  why-clear z =
+      let a = or-clear _ _ z in
+      let b = or-clear _ _ (a .1) in
+      let d = or-clear _ _ (b .1) in
+      let w = lent-clear n lent (planSizes table starts) (a .0) in
+      let t = plan-sizes table starts (w .1) in
+      let s = starts-within n starts (t .1) (b .0) in
+      record {
+        network = w .0;
+        legal = s;
+        valid = clash-valid n (netOf lent) starts (λ k l. s .start k l .0) (d .0);
+        inside = leb-false n path (refuse-clear (leb n path) 6 0 (omega arith) (d .1));
+        tableSize = t .0;
+      }
+
+  pub clear-why : Explainable n lent starts path table → whyFault n lent starts path table .number ≡ 0
+  unfolding whyFault pathFault
+  clear-why e =
+      or-none _ _ (clear-lent n lent (planSizes table starts) (e .network) (sizes-plan table starts (e .tableSize) (e .legal .size)))
+      (or-none _ _ (within-starts n starts (e .legal))
+      (or-none _ _ (clear-of (valid-clash n (netOf lent) starts (λ k l. e .network .width k l .0) (e .valid)))
+      (clear-of (refuse-not (leb n path) 6 0 (lt-leb n path (e .inside))))))
+
+  pub explaining-explainable : explaining n lent starts path table .answer .number ≡ 0 → Explainable n lent starts path table
+  unfolding explaining refusedWhy
+  explaining-explainable z = why-clear (unless-clear (λ (r : Left Why (List ℕ)). r .answer .number) (whyFault n lent starts path table) (refusedWhy table) _ refl z)
+
+  pub explainable-explaining : Explainable n lent starts path table → explaining n lent starts path table ≡ doneWhy (netOf lent) (at starts) n path table
+  unfolding explaining
+  explainable-explaining e = unless-done (whyFault n lent starts path table) (refusedWhy table) _ (clear-why e)
 
 -- packing
 pub record Packable (n : ℕ) (lent : Lent) (order starts : List ℕ) : Type 0 where

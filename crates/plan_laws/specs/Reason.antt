@@ -4,17 +4,18 @@ use Prim.Native.Nat.{ℕ, zero, suc, _+_, _-_, _≤_, _<_, max}
 use mathlib.Core.Path.{_≡_, refl, sym, ap, subst, _∙_}
 use mathlib.Core.Logic.{_≢_, _⊎_, inl, inr}
 use mathlib.Core.Bool.{Bool, true, false, cond, not, _&&_, _||_, true≢false}
-use mathlib.Core.List.{List, [], _∷_}
+use mathlib.Core.List.{List, [], _∷_, _++_}
 use native.Mathlib.Omega.{arith}
 use native.Mathlib.Decide.{decLt, decLe, ℕ-discrete}
 use native.Mathlib.Numerals.{add-one}
-use lib.ListN.{length}
+use lib.ListN.{length, set, drop, length-set, List·getD-append}
+use lib.Seq.{sets, sets-eq}
 use lib.Dec.{ltb, eqb}
 use borrow.Author.Tests.{eq-eqb, ne-eqb, eqb-true, eqb-false, lt-ltb, le-ltb, ltb-true, ltb-false, not-true, not-false}
 use Rattle.rules.specs.Tables.{at}
 use Rattle.rules.specs.Scan.{first, found, largest, sum}
 use Rattle.rules.specs.Plan.{Net, Conflict, inConflict, end, past, Clear, Valid}
-use Rattle.rules.specs.Reason.{isBelow, holdsUp, link, isLast, chainOf, chain, HoldsUp, last, Chain}
+use Rattle.rules.specs.Reason.{isBelow, holdsUp, link, isLast, chainOf, chain, bottom, HoldsUp, last, Chain}
 use Rattle.table_laws.specs.Scans.{First, none, some, first-is, found-at, found-first, found-not, found-none, largest-ge, largest-le, sum-suc}
 
 -- a path below, and one that holds up, by their parts
@@ -262,3 +263,134 @@ module _ (net : Net) (plan : ℕ → ℕ) (n : ℕ) where
   pub chain-only : (k : ℕ) (c : List ℕ) → k < n → Chain net plan n k c → c ≡ chain net plan n k
   unfolding chain
   chain-only k c l h = only n k c (under-own k n l) h
+
+-- for the code: the next path of a chain, or n
+module _ (net : Net) (plan : ℕ → ℕ) (n k : ℕ) where
+  pub next-low : plan k ≡ net .low k → n ≡ cond (isLast net plan n k) n (link net plan n k)
+  next-low e = rw (ends-low net plan n k e)
+
+  link-most : link net plan n k ≤ n
+  unfolding link
+  link-most = pick (first-is (holdsUp net plan k) n)
+    where
+      pick : First (holdsUp net plan k) n (first (holdsUp net plan k) n) → first (holdsUp net plan k) n ≤ n
+      pick (none e h) = omega arith
+      pick (some l e h) = omega arith
+
+  pub next-link : plan k ≢ net .low k → link net plan n k ≡ cond (isLast net plan n k) n (link net plan n k)
+  next-link ne = go (decLt (link net plan n k) n)
+    where
+      go : Dec (link net plan n k < n) → link net plan n k ≡ cond (isLast net plan n k) n (link net plan n k)
+      go (yes l) = rw (goes-on net plan n k (link net plan n k) ne refl l)
+      go (no l) = rw (ends-free net plan n k (link net plan n k) ne refl (omega arith)) (omega (arith, link-most))
+
+  pub next-ends : (j : ℕ) → j ≡ cond (isLast net plan n k) n (link net plan n k) → n ≤ j → isLast net plan n k ≡ true
+  next-ends j e l = go (isLast net plan n k) refl e
+    where
+      go : (b : Bool) → isLast net plan n k ≡ b → j ≡ cond b n (link net plan n k) → isLast net plan n k ≡ true
+      go true f q = f
+      go false f q = absurd (omega (arith, last-goes net plan n k f .holds .path))
+
+  pub next-goes : (j : ℕ) → j ≡ cond (isLast net plan n k) n (link net plan n k) → j < n → (isLast net plan n k ≡ false) × (j ≡ link net plan n k)
+  next-goes j e l = go (isLast net plan n k) refl e
+    where
+      go : (b : Bool) → isLast net plan n k ≡ b → j ≡ cond b n (link net plan n k) → (isLast net plan n k ≡ false) × (j ≡ link net plan n k)
+      go true f q = absurd (omega arith)
+      go false f q = (f, q)
+
+-- a chain being written: m paths stand in the table, and path k is the next
+module _ (net : Net) (plan : ℕ → ℕ) (n path : ℕ) (before : List ℕ) where
+  abbrev whole-chain : List ℕ
+  whole-chain = chain net plan n path
+
+  pub record Writing (m k : ℕ) (table : List ℕ) : Type 0 where
+    pub room : m ≤ n
+    pub inside : k < n
+    pub size : length table ≡ length before
+    pub left : sets table m (chainOf net plan n (n - m) k) ≡ sets before 0 whole-chain
+    pub count : m + length (chainOf net plan n (n - m) k) ≡ length whole-chain
+
+  abbrev pub Written : ℕ → List ℕ → Type 0
+  Written r table = (r ≡ length whole-chain) × (table ≡ whole-chain ++ drop (length whole-chain) before)
+
+  pub writing-first : path < n → Writing 0 path before
+  unfolding chain
+  writing-first l =
+      let e : n - 0 ≡ n = omega arith in
+      record { room = omega arith; inside = l; size = refl; left = rw e; count = rw e (omega arith) }
+
+  done : (table : List ℕ) → n ≤ length before → table ≡ sets before 0 whole-chain → table ≡ whole-chain ++ drop (length whole-chain) before
+  done table room e =
+      let few = chain-few net plan n path in
+      let z : 0 + length whole-chain ≡ length whole-chain = omega arith in
+      e ∙ sets-eq whole-chain before 0 (omega arith) ∙ ap (λ (k : ℕ). whole-chain ++ drop k before) z
+
+  module _ (m k : ℕ) (table : List ℕ) (w : Writing m k table) where
+    more : m < n → n - m ≡ suc (n - (m + 1))
+    more l = omega arith
+
+    pub writing-stop : n ≤ length before → m < n → isLast net plan n k ≡ true → Written (m + 1) (set table m k)
+    writing-stop room l e =
+        let c : chainOf net plan n (n - m) k ≡ k ∷ [] = rw (more l) (chain-stops net plan n (n - (m + 1)) k e) in
+        (omega (arith, w .count, ap length c), done (set table m k) room (sym (ap (sets table m) c) ∙ w .left))
+
+    pub writing-more : m < n → isLast net plan n k ≡ false → Writing (m + 1) (link net plan n k) (set table m k)
+    writing-more l e =
+        let j = link net plan n k in
+        let r = chainOf net plan n (n - (m + 1)) j in
+        let c : chainOf net plan n (n - m) k ≡ k ∷ r = rw (more l) (chain-goes net plan n (n - (m + 1)) k e) in
+        let s : m + 1 ≡ suc m = omega arith in
+        record {
+          room = omega arith;
+          inside = last-goes net plan n k e .holds .path;
+          size = length-set table m k ∙ w .size;
+          left = ap (λ (i : ℕ). sets (set table m k) i r) s ∙ sym (ap (sets table m) c) ∙ w .left;
+          count = omega (arith, w .count, ap length c);
+        }
+
+    pub writing-full : n ≤ length before → n ≤ m → Written m table
+    writing-full room l =
+        let z : n - m ≡ 0 = omega arith in
+        let c : chainOf net plan n (n - m) k ≡ [] = rw z (unfold chainOf in refl) in
+        (omega (arith, w .count, ap length c), done table room (sym (ap (sets table m) c) ∙ w .left))
+
+-- the lowest slot that path k can come down to, a path at a time
+module _ (net : Net) (plan : ℕ → ℕ) (k : ℕ) where
+  abbrev pub asksOf : ℕ → ℕ
+  asksOf j = cond (isBelow net plan k j) (past net j k (plan j)) 0
+
+  pub asks-told : (j : ℕ) → net .guard k j ≡ net .guard j k
+      → cond (ltb (net .guard k j) 255) (cond (ltb (plan j) (plan k)) (plan j + net .width j - 1 + net .guard k j + 1) 0) 0 ≡ asksOf j
+  unfolding isBelow
+  asks-told j e = rw e (go (ltb (net .guard j k) 255))
+    where
+      go : (a : Bool) → cond a (cond (ltb (plan j) (plan k)) (past net j k (plan j)) 0) 0 ≡ cond (a && ltb (plan j) (plan k)) (past net j k (plan j)) 0
+      go true = refl
+      go false = refl
+
+  pub bottom-first : (low : ℕ) → low ≡ net .low k → low ≡ max (net .low k) (largest asksOf 0)
+  unfolding largest
+  bottom-first low e = omega arith
+
+  pub bottom-more : (low x j : ℕ) → low ≡ max (net .low k) (largest asksOf j) → x ≡ asksOf j → max low x ≡ max (net .low k) (largest asksOf (j + 1))
+  unfolding largest
+  bottom-more low x j e f = rw (add-one j) (omega (arith, e, f))
+
+  pub bottom-last : (n low j : ℕ) → low ≡ max (net .low k) (largest asksOf j) → j ≡ n → low ≡ bottom net plan n k
+  unfolding bottom
+  bottom-last n low j e f = e ∙ ap (λ (i : ℕ). max (net .low k) (largest asksOf i)) f
+
+-- what a path asks, by the three ways out
+module _ (g s t x : ℕ) where
+  pub asks-free : 255 ≤ g → 0 ≡ cond (ltb g 255) (cond (ltb s t) x 0) 0
+  asks-free l = rw (le-ltb g 255 l)
+
+  pub asks-above : g < 255 → t ≤ s → 0 ≡ cond (ltb g 255) (cond (ltb s t) x 0) 0
+  asks-above l h = rw (lt-ltb g 255 l, le-ltb s t h)
+
+  pub asks-some : g < 255 → s < t → x ≡ cond (ltb g 255) (cond (ltb s t) x 0) 0
+  asks-some l h = rw (lt-ltb g 255 l, lt-ltb s t h)
+
+-- the last path, where the chain stands in a table
+pub last-in : (c rest : List ℕ) → 1 ≤ length c → at (c ++ rest) (length c - 1) ≡ last c
+last-in c rest l = List·getD-append c rest 0 (length c - 1) (omega arith)

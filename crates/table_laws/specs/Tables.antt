@@ -1,9 +1,9 @@
 -- Laws of tables: a stored cell, and cleared tables. Assumes nothing.
 use Prim.Native.Nat.{ℕ, _<_}
-use mathlib.Core.Path.{_≡_}
+use mathlib.Core.Path.{_≡_, refl}
 use mathlib.Core.Logic.{_≢_}
 use mathlib.Core.List.{List}
-use lib.ListN.{length, set, length-replicate, getD-replicate}
+use lib.ListN.{length, set, replicate, length-replicate, getD-replicate}
 use lib.Seq.{getD-set-same, getD-set-other}
 use Rattle.rules.specs.Tables.{at, cleared}
 
@@ -20,3 +20,8 @@ cleared-length size v = length-replicate size v
 pub cleared-at : (size v k : ℕ) → k < size → at (cleared size v) k ≡ v
 unfolding cleared
 cleared-at size v k l = getD-replicate size k v 0 l
+
+-- an array of the code, as it begins
+pub blank : (size v : ℕ) → replicate size v ≡ cleared size v
+unfolding cleared
+blank size v = refl

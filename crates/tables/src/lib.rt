@@ -55,7 +55,7 @@ pub fn size_fault(cells: usize, size: usize) -> Fault
     accepted()
 }
 
-// 2, of an order and a table of starts of so many cells.
+// 2, of an order or a chain and a table of starts, of so many cells.
 pub fn plan_sizes(order: usize, starts: usize) -> Fault
     ensures { λ r. ⌜ ((o s : List ℕ) → length o ≡ order → length s ≡ starts → r ≡ planSizes o s) ⌝ }
 {
