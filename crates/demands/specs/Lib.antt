@@ -14,6 +14,7 @@ pub mod OnPlanning
 pub mod OnPressing
 pub mod OnFlooring
 pub mod OnBetter
+pub mod OnExplaining
 -- no second answer, and programs that are unfit
 pub mod OneAnswer
 pub mod Witness

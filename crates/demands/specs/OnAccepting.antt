@@ -12,18 +12,19 @@ use Rattle.rules.specs.declared.Packed.{Packed}
 use Rattle.rules.specs.declared.Pressed.{Pressed}
 use Rattle.rules.specs.declared.Planned.{Planned}
 use Rattle.rules.specs.declared.Floored.{Floored}
+use Rattle.rules.specs.declared.Why.{Why}
 use Rattle.rules.specs.Tables.{at, cell, Lent}
 use Rattle.rules.specs.Plan.{netOf, Conflict}
 use Rattle.rules.specs.Sides.{Split, isHigh, hasSides}
 use Rattle.rules.specs.Floor.{Clique}
 use Rattle.rules.specs.Writing.{sheetText}
 use Rattle.rules.specs.Numbers.{noFault, outside, refuseIf, scan, badMember, listFault, lentFault, floorFault}
-use Rattle.rules.specs.Calls.{Left, donePacked, packing, donePressed, pressing, siding, donePlanned, doneImproved, improving, donePlan, planning, flooring, writing}
+use Rattle.rules.specs.Calls.{Left, donePacked, packing, donePressed, pressing, doneWhy, explaining, siding, donePlanned, doneImproved, improving, donePlan, planning, flooring, writing}
 use Rattle.table_laws.specs.Faults.{refuse-not, or-none, scan-none}
 use Rattle.table_laws.specs.Limits.{clear-of, outside-none}
 use Rattle.table_laws.specs.Chains.{clear-lent}
 use Rattle.plan_laws.specs.Fits.{network-good}
-use Rattle.plan_laws.specs.Answers.{unless-done, Judgeable, pressing-judgeable, judgeable-pressing, Packable, packing-packable, packable-packing, Sidable, siding-done, sidable-number, improving-packable, packable-improves, Plannable, planning-plannable, plannable-planning, Floorable, flooring-floorable}
+use Rattle.plan_laws.specs.Answers.{unless-done, Judgeable, pressing-judgeable, judgeable-pressing, Explainable, explaining-explainable, explainable-explaining, Packable, packing-packable, packable-packing, Sidable, siding-done, sidable-number, improving-packable, packable-improves, Plannable, planning-plannable, plannable-planning, Floorable, flooring-floorable}
 use Rattle.demands.specs.Finding.{found-sides, found-all}
 use Rattle.demands.specs.Writable.{Writable, writing-writable, writable-writing}
 use Rattle.demands.specs.Tests.{Tells}
@@ -39,6 +40,13 @@ pub pressing-exact : (n : ℕ) (lent : Lent) (starts : List ℕ) → (pressing n
 unfolding donePressed
 pressing-exact n lent starts =
     (pressing-judgeable n lent starts, λ j. ap (λ (r : Left Pressed (List ℕ)). r .answer .number) (judgeable-pressing n lent starts j))
+
+-- why a path stands where it stands
+pub explaining-exact : (n : ℕ) (lent : Lent) (starts : List ℕ) (path : ℕ) (table : List ℕ)
+    → (explaining n lent starts path table .answer .number ≡ 0) ↔ Explainable n lent starts path table
+unfolding doneWhy
+explaining-exact n lent starts path table =
+    (explaining-explainable n lent starts path table, λ e. ap (λ (r : Left Why (List ℕ)). r .answer .number) (explainable-explaining n lent starts path table e))
 
 -- the two-sided call: the tables being right, 0 exactly when some split into two sides exists
 pub siding-split : (n : ℕ) (lent : Lent) (order : List ℕ)

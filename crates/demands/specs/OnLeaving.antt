@@ -14,6 +14,7 @@ use lib.Dec.{eqb}
 use Rattle.rules.specs.declared.Fault.{Fault}
 use Rattle.rules.specs.declared.Packed.{Packed}
 use Rattle.rules.specs.declared.Pressed.{Pressed}
+use Rattle.rules.specs.declared.Why.{Why}
 use Rattle.rules.specs.declared.Sided.{Sided}
 use Rattle.rules.specs.declared.Planned.{Planned}
 use Rattle.rules.specs.declared.Floored.{Floored}
@@ -23,16 +24,18 @@ use Rattle.rules.specs.Limits.{KeptFrom}
 use Rattle.rules.specs.Plan.{Net, netOf}
 use Rattle.rules.specs.Packing.{Rule, lowest, packed}
 use Rattle.rules.specs.Pressing.{arranged, byStart, pressed}
+use Rattle.rules.specs.Reason.{chain}
 use Rattle.rules.specs.Sides.{isHigh, hasSides, twoSided}
 use Rattle.rules.specs.Planning.{Run, startNext, greedy, swapped, draw, drawnPlace, stateAfter, tried, round, rounds, improved}
 use Rattle.rules.specs.Writing.{sheetText}
-use Rattle.rules.specs.Numbers.{judgeFault, packFault, twoSidesFault, planFault, improveFault, floorFault, writeFault}
-use Rattle.rules.specs.Calls.{Left, unless, refusedPacked, donePacked, packing, refusedPressed, donePressed, pressing, siding, refusedPlanned, donePlanned, doneImproved, improving, donePlan, planning, flooring, writing}
+use Rattle.rules.specs.Numbers.{judgeFault, whyFault, packFault, twoSidesFault, planFault, improveFault, floorFault, writeFault}
+use Rattle.rules.specs.Calls.{Left, unless, refusedPacked, donePacked, packing, refusedPressed, donePressed, pressing, refusedWhy, doneWhy, explaining, siding, refusedPlanned, donePlanned, doneImproved, improving, donePlan, planning, flooring, writing}
 use Rattle.table_laws.specs.Tables.{at-other, cleared-length}
 use Rattle.plan_laws.specs.Arranged.{arranged-order}
 use Rattle.plan_laws.specs.Improve.{place-below, draw-below, round-kept, round-left}
-use Rattle.plan_laws.specs.Answers.{unless-done, pressing-judgeable, judgeable-pressing, Packable, packing-packable, packable-packing, siding-done, sidable-siding, improving-packable, packable-improving, planning-plannable, plannable-planning}
+use Rattle.plan_laws.specs.Answers.{unless-done, pressing-judgeable, judgeable-pressing, explaining-explainable, explainable-explaining, Packable, packing-packable, packable-packing, siding-done, sidable-siding, improving-packable, packable-improving, planning-plannable, plannable-planning}
 use Rattle.plan_laws.specs.Runs.{runAfter, run-packable}
+use Rattle.plan_laws.specs.Reason.{chain-few}
 use Rattle.demands.specs.OnPlanning.{sided, greedyPackable}
 use Rattle.demands.specs.Writable.{writing-writable, clear-write}
 
@@ -61,6 +64,14 @@ pressing-refused n lent starts z =
     let e = unless-is (λ (r : Left Pressed (List ℕ)). r .answer .number) (judgeFault n lent starts) (refusedPressed starts)
     (donePressed (netOf lent) n (pressed (netOf lent) n starts)) refl z in
     (ap (λ (r : Left Pressed (List ℕ)). r .answer .highest) e, ap (λ (r : Left Pressed (List ℕ)). r .tables) e)
+
+pub explaining-refused : (n : ℕ) (lent : Lent) (starts : List ℕ) (path : ℕ) (table : List ℕ) → explaining n lent starts path table .answer .number ≢ 0
+    → (explaining n lent starts path table .answer .length ≡ 0) × (explaining n lent starts path table .answer .down ≡ 0) × (explaining n lent starts path table .tables ≡ table)
+unfolding explaining refusedWhy doneWhy
+explaining-refused n lent starts path table z =
+    let e = unless-is (λ (r : Left Why (List ℕ)). r .answer .number) (whyFault n lent starts path table) (refusedWhy table)
+    (doneWhy (netOf lent) (at starts) n path table) refl z in
+    (ap (λ (r : Left Why (List ℕ)). r .answer .length) e, ap (λ (r : Left Why (List ℕ)). r .answer .down) e, ap (λ (r : Left Why (List ℕ)). r .tables) e)
 
 pub siding-refused : (n : ℕ) (lent : Lent) (order : List ℕ) → siding n lent order .answer .number ≢ 0
     → (siding n lent order .answer .low ≡ 0) × (siding n lent order .tables ≡ order)
@@ -151,6 +162,14 @@ rounds-kept highestOf n pos t (suc k) r h = go (decLt (highestOf (tried n q)) (q
     go (yes l) h = rw (round-kept highestOf n pos q l .0) (swap h)
     go (no l) h = rw (round-left highestOf n pos q (omega arith) .0) h
 
+-- some cells written at the front of a table
+front-kept : (c t : List ℕ) → length c ≤ length t → KeptFrom (length c) t (c ++ drop (length c) t)
+front-kept c t l = record {
+  size = omega (arith, length-append c (drop (length c) t), length-drop (length c) t);
+  cells = λ k g. let e : length c + (k - length c) ≡ k = omega arith in
+      ap (at (c ++ drop (length c) t)) (sym e) ∙ getD-append-add c (drop (length c) t) (k - length c) 0 ∙ getD-drop (length c) t (k - length c) 0 ∙ ap (at t) e;
+}
+
 pub packing-past : (n : ℕ) (lent : Lent) (order starts : List ℕ) → packing n lent order starts .answer .number ≡ 0
     → KeptFrom n starts (packing n lent order starts .tables)
 unfolding donePacked
@@ -165,6 +184,15 @@ pressing-past n lent starts z =
     let j = pressing-judgeable n lent starts z in
     let o = arranged-order (λ s i k. at starts k) n (cleared 128 0) (omega (arith, cleared-length 128 0, j .network .few)) n (omega arith) in
     rw (judgeable-pressing n lent starts j) (packed-kept (lowest (netOf lent)) (at (byStart n (at starts) (cleared 128 0) n)) starts n n (o .inside))
+
+-- the chain's table past its length
+pub explaining-past : (n : ℕ) (lent : Lent) (starts : List ℕ) (path : ℕ) (table : List ℕ) → explaining n lent starts path table .answer .number ≡ 0
+    → KeptFrom (explaining n lent starts path table .answer .length) table (explaining n lent starts path table .tables)
+unfolding doneWhy
+explaining-past n lent starts path table z =
+    let e = explaining-explainable n lent starts path table z in
+    rw (explainable-explaining n lent starts path table e)
+    (front-kept (chain (netOf lent) (at starts) n path) table (omega (arith, chain-few (netOf lent) (at starts) n path, e .network .few, e .tableSize)))
 
 sided-kept : (high : ℕ → Bool) (n : ℕ) (order : List ℕ) → KeptFrom n order (twoSided n high order)
 unfolding twoSided
@@ -219,12 +247,4 @@ unfolding writing
 writing-past n labels lent starts text z =
     let w = writing-writable n labels lent starts text z in
     rw (unless-done (writeFault n labels lent starts text) _ _ (clear-write n labels lent starts text (w .0) (w .1)))
-    (over (sheetText n labels lent starts) (w .1))
-  where
-    over : (s : List ℕ) → length s ≤ length text → KeptFrom (length s) text (s ++ drop (length s) text)
-    over s l = record {
-      size = omega (arith, length-append s (drop (length s) text), length-drop (length s) text);
-      cells = λ k g. let e : length s + (k - length s) ≡ k = omega arith in
-          ap (at (s ++ drop (length s) text)) (sym e) ∙ getD-append-add s (drop (length s) text) (k - length s) 0 ∙ getD-drop (length s) text (k - length s) 0
-          ∙ ap (at text) e;
-    }
+    (front-kept (sheetText n labels lent starts) text (w .1))

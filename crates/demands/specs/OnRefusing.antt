@@ -8,7 +8,7 @@ use mathlib.Core.Bool.{Bool, true, false, cond, not, _&&_, true≢false}
 use mathlib.Core.List.{List, [], _∷_, _++_}
 use native.Mathlib.Omega.{arith}
 use lib.ListN.{length}
-use lib.Dec.{ltb, eqb}
+use lib.Dec.{ltb, leb, eqb}
 use borrow.Author.Tests.{not-true, not-false}
 use Rattle.rules.specs.declared.Fault.{Fault}
 use Rattle.rules.specs.declared.Packed.{Packed}
@@ -17,20 +17,21 @@ use Rattle.rules.specs.declared.Sided.{Sided}
 use Rattle.rules.specs.declared.Planned.{Planned}
 use Rattle.rules.specs.declared.Floored.{Floored}
 use Rattle.rules.specs.declared.SheetWritten.{SheetWritten}
+use Rattle.rules.specs.declared.Why.{Why}
 use Rattle.rules.specs.Tables.{at, Lent}
 use Rattle.rules.specs.Limits.{Network}
 use Rattle.rules.specs.Plan.{netOf, short, tooClose}
 use Rattle.rules.specs.Sides.{Split, isHigh, hasSides}
 use Rattle.rules.specs.Writing.{badLabel, labelTwice, pairs, hasPlan, sheetText}
-use Rattle.rules.specs.Numbers.{fault, noFault, refuseIf, _orElse_, scan, square, nowhereShort, outside, countFault, sizeFault, badWidth, badGuard, badMirror, badEntry, orderFault, badStart, startFault, clashFault, sidesFault, roundsFault, badMember, listFault, networkFault, networkSizes, lentFault, planSizes, judgeFault, packFault, twoSidesFault, planFault, improveFault, floorFault, labelSizes, writeFault}
-use Rattle.rules.specs.Calls.{Left, judging, refusedPacked, donePacked, packing, refusedPressed, donePressed, pressing, siding, refusedPlanned, donePlanned, doneImproved, improving, donePlan, planning, flooring, writing}
-use Rattle.rules.specs.Refusing.{Test, Gives, Unsaid, Clash, sizeTest, countTest, widthTest, guardTest, mirrorTest, entryTest, startTest, clashTest, sidesTest, roundsTest, lengthTest, memberTest, labelTest, labelTwiceTest, pairsTest, writtenStartTest, roomTest, networkTests, lentTests, judgeTests, packTests, improveTests, planTests, twoSidesTests, floorTests, writeTests}
+use Rattle.rules.specs.Numbers.{fault, noFault, refuseIf, _orElse_, scan, square, nowhereShort, outside, countFault, sizeFault, badWidth, badGuard, badMirror, badEntry, orderFault, badStart, startFault, clashFault, sidesFault, roundsFault, badMember, listFault, networkFault, networkSizes, lentFault, planSizes, pathFault, judgeFault, whyFault, packFault, twoSidesFault, planFault, improveFault, floorFault, labelSizes, writeFault}
+use Rattle.rules.specs.Calls.{Left, judging, refusedPacked, donePacked, packing, refusedPressed, donePressed, pressing, refusedWhy, doneWhy, explaining, siding, refusedPlanned, donePlanned, doneImproved, improving, donePlan, planning, flooring, writing}
+use Rattle.rules.specs.Refusing.{Test, Gives, Unsaid, Clash, sizeTest, countTest, widthTest, guardTest, mirrorTest, entryTest, pathTest, startTest, clashTest, sidesTest, roundsTest, lengthTest, memberTest, labelTest, labelTwiceTest, pairsTest, writtenStartTest, roomTest, networkTests, lentTests, judgeTests, whyTests, packTests, improveTests, planTests, twoSidesTests, floorTests, writeTests}
 use Rattle.table_laws.specs.Faults.{scan-clear}
 use Rattle.table_laws.specs.Chains.{count-clear, lent-clear}
 use Rattle.plan_laws.specs.Fits.{network-good}
 use Rattle.demands.specs.Finding.{found-sides, found-all}
 use Rattle.demands.specs.Tests.{told, Tells, refuse-gives, scan-gives, square-gives, gives-done, gives-append, Silent, silent-append, unless-gives, silent-gives}
-use Rattle.demands.specs.Words.{tells-lt, tells-eq, tells-not, tells-outside, tells-guard, tells-mirror, tells-entry, tells-clash, tells-short, tells-member, tells-start, tells-label, tells-twice}
+use Rattle.demands.specs.Words.{tells-lt, tells-le, tells-eq, tells-not, tells-outside, tells-guard, tells-mirror, tells-entry, tells-clash, tells-short, tells-member, tells-start, tells-label, tells-twice}
 
 -- a test, and those after it
 then : (t : Test) (ts : List Test) (f g : Fault) → Gives (t ∷ []) f → (f .number ≡ 0 → Gives ts g) → Gives (t ∷ ts) (f orElse g)
@@ -86,19 +87,23 @@ lent-silent n lent sizes more a b = silent-append (lentTests n lent sizes) more 
 
 -- judging and pressing
 module _ (n : ℕ) (lent : Lent) (starts : List ℕ) where
+  start-gives : Gives (startTest n starts ∷ []) (startFault n starts)
+  unfolding startFault
+  start-gives = scan-gives 7 n _ (badStart starts) (omega arith) (λ k l. tells-outside 1 16384 (at starts k))
+
+  clash-gives : Network n lent → Gives (clashTest n (netOf lent) starts ∷ []) (clashFault n (netOf lent) starts)
+  unfolding clashFault
+  clash-gives w =
+      square-gives 8 n (Clash (netOf lent) (at starts)) _ (tooClose (netOf lent) (at starts)) (short (netOf lent) (at starts)) (omega arith) (w .few)
+      (λ i j l g. tells-clash (netOf lent) (at starts) i j (w .width i l .0) (w .width j g .0))
+      (λ i j l g e. tells-short (netOf lent) (at starts) i j (omega (arith, w .few)) e)
+
   judge-gives : Gives (judgeTests n lent starts) (judgeFault n lent starts)
-  unfolding judgeTests judgeFault startFault clashFault
+  unfolding judgeTests judgeFault
   judge-gives =
       gives-append (lentTests n lent (sizeTest starts 128 ∷ [])) _ (lentFault n lent (sizeFault starts 128)) _
       (lent-gives n lent _ (sizeFault starts 128) (size-gives starts 128)) (λ z.
-      then (startTest n starts) _ (scan 7 (badStart starts) n) _ (scan-gives 7 n _ (badStart starts) (omega arith) (λ k l. tells-outside 1 16384 (at starts k))) (λ _.
-      clashes (lent-clear n lent (sizeFault starts 128) z .0)))
-    where
-      clashes : Network n lent → Gives (clashTest n (netOf lent) starts ∷ []) (square 8 (tooClose (netOf lent) (at starts)) (short (netOf lent) (at starts)) n)
-      clashes w =
-          square-gives 8 n (Clash (netOf lent) (at starts)) _ (tooClose (netOf lent) (at starts)) (short (netOf lent) (at starts)) (omega arith) (w .few)
-          (λ i j l g. tells-clash (netOf lent) (at starts) i j (w .width i l .0) (w .width j g .0))
-          (λ i j l g e. tells-short (netOf lent) (at starts) i j (omega (arith, w .few)) e)
+      then (startTest n starts) _ (startFault n starts) _ start-gives (λ _. clash-gives (lent-clear n lent (sizeFault starts 128) z .0)))
 
   pub judging-gives : Gives (judgeTests n lent starts) (judging n lent starts)
   unfolding judging
@@ -112,6 +117,29 @@ module _ (n : ℕ) (lent : Lent) (starts : List ℕ) where
   pressing-gives =
       unless-gives (λ (r : Left Pressed (List ℕ)). r .answer .number) (λ (r : Left Pressed (List ℕ)). r .answer .place) (λ (r : Left Pressed (List ℕ)). r .answer .short)
       (judgeTests n lent starts) (judgeFault n lent starts) (refusedPressed starts) _ refl refl refl refl refl refl judge-gives
+
+  -- why a path stands where it stands
+  module _ (path : ℕ) (table : List ℕ) where
+    path-gives : Gives (pathTest n path ∷ []) (pathFault n path)
+    unfolding pathFault
+    path-gives = refuse-gives 6 _ (leb n path) (omega arith) (tells-le n path)
+
+    why-gives : Gives (whyTests n lent starts path table) (whyFault n lent starts path table)
+    unfolding whyTests whyFault
+    why-gives =
+        gives-append (lentTests n lent (sizeTest table 128 ∷ sizeTest starts 128 ∷ [])) _ (lentFault n lent (planSizes table starts)) _
+        (lent-gives n lent _ (planSizes table starts) (plan-sizes-give table starts)) (λ z.
+        then (startTest n starts) _ (startFault n starts) _ start-gives (λ _.
+        then (clashTest n (netOf lent) starts) _ (clashFault n (netOf lent) starts) _ (clash-gives (lent-clear n lent (planSizes table starts) z .0)) (λ _. path-gives)))
+
+    abbrev why : Why
+    why = explaining n lent starts path table .answer
+
+    pub explaining-gives : Gives (whyTests n lent starts path table) (told (why .number) (why .place) (why .short))
+    unfolding explaining refusedWhy doneWhy
+    explaining-gives =
+        unless-gives (λ (r : Left Why (List ℕ)). r .answer .number) (λ (r : Left Why (List ℕ)). r .answer .place) (λ (r : Left Why (List ℕ)). r .answer .short)
+        (whyTests n lent starts path table) (whyFault n lent starts path table) (refusedWhy table) _ refl refl refl refl refl refl why-gives
 
 -- packing, improving and planning
 module _ (n : ℕ) (lent : Lent) (order starts : List ℕ) where

@@ -15,7 +15,8 @@ use Rattle.rules.specs.declared.Planned.{Planned}
 use Rattle.rules.specs.declared.Floored.{Floored}
 use Rattle.rules.specs.declared.SheetRead.{SheetRead}
 use Rattle.rules.specs.declared.SheetWritten.{SheetWritten}
-use Rattle.rules.specs.Calls.{Left, left, judging, packing, pressing, siding, improving, planning, flooring, reading, writing}
+use Rattle.rules.specs.declared.Why.{Why}
+use Rattle.rules.specs.Calls.{Left, left, judging, packing, pressing, explaining, siding, improving, planning, flooring, reading, writing}
 use Rattle.rules.specs.Better.{Bettered}
 
 -- the law
@@ -30,6 +31,10 @@ pack-one n lent order starts = one-answer
 pub press-one : (n : ℕ) (lent : Lent) (starts : List ℕ) {r s : Pressed} {t u : List ℕ}
     → left r t ≡ pressing n lent starts → left s u ≡ pressing n lent starts → (r ≡ s) × (t ≡ u)
 press-one n lent starts = one-answer
+
+pub why-one : (n : ℕ) (lent : Lent) (starts : List ℕ) (path : ℕ) (table : List ℕ) {r s : Why} {t u : List ℕ}
+    → left r t ≡ explaining n lent starts path table → left s u ≡ explaining n lent starts path table → (r ≡ s) × (t ≡ u)
+why-one n lent starts path table = one-answer
 
 pub two-sides-one : (n : ℕ) (lent : Lent) (order : List ℕ) {r s : Sided} {t u : List ℕ}
     → left r t ≡ siding n lent order → left s u ≡ siding n lent order → (r ≡ s) × (t ≡ u)

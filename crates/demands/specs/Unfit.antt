@@ -18,11 +18,12 @@ use Rattle.rules.specs.declared.Planned.{Planned}
 use Rattle.rules.specs.declared.Floored.{Floored}
 use Rattle.rules.specs.declared.SheetRead.{SheetRead}
 use Rattle.rules.specs.declared.SheetWritten.{SheetWritten}
+use Rattle.rules.specs.declared.Why.{Why}
 use Rattle.rules.specs.Tables.{at, cleared, Lent, clearedNetwork}
 use Rattle.rules.specs.Limits.{Network}
 use Rattle.rules.specs.Scan.{sum}
 use Rattle.rules.specs.Better.{Bettered}
-use Rattle.rules.specs.Calls.{Left, judging, packing, pressing, siding, improving, planning, flooring, reading, writing}
+use Rattle.rules.specs.Calls.{Left, judging, packing, pressing, explaining, siding, improving, planning, flooring, reading, writing}
 use Rattle.rules.specs.Figures.{netT, three}
 use Rattle.demands.specs.Witness.{netTwo, netOne, onePath, labelA, answers, betterT, differs}
 use Rattle.table_laws.specs.Scans.{sum-same}
@@ -55,6 +56,9 @@ packingOf (n, lent, order, starts) = packing n lent order starts
 
 abbrev pub pressingOf : ℕ × Lent × Table → Left Pressed Table
 pressingOf (n, lent, starts) = pressing n lent starts
+
+abbrev pub explainingOf : ℕ × Lent × Table × ℕ × Table → Left Why Table
+explainingOf (n, lent, starts, path, table) = explaining n lent starts path table
 
 abbrev pub sidingOf : ℕ × Lent × Table → Left Sided Table
 sidingOf (n, lent, order) = siding n lent order
@@ -90,6 +94,9 @@ pack-refusing program = refusing-unfit (λ r. r .answer .number) packingOf progr
 
 pub press-refusing : (program : ℕ × Lent × Table → Left Pressed Table) → Meets program pressingOf → Refuses (λ r. r .answer .number) program → ⊥
 press-refusing program = refusing-unfit (λ r. r .answer .number) pressingOf program (3, netT, three 20 10 30) (entry 2 answers)
+
+pub why-refusing : (program : ℕ × Lent × Table × ℕ × Table → Left Why Table) → Meets program explainingOf → Refuses (λ r. r .answer .number) program → ⊥
+why-refusing program = refusing-unfit (λ r. r .answer .number) explainingOf program (3, netT, three 1 4 10, 2, cleared 128 0) (entry 13 answers)
 
 pub two-sides-refusing : (program : ℕ × Lent × Table → Left Sided Table) → Meets program sidingOf → Refuses (λ r. r .answer .number) program → ⊥
 two-sides-refusing program = refusing-unfit (λ r. r .answer .number) sidingOf program (2, netTwo, three 0 0 0) (entry 3 answers)
@@ -229,3 +236,20 @@ constant-short-unfit program meets constant same =
     said starts z =
         sym (ap (λ (f : Fault). f .short) (meets (3, netT, starts)))
         ∙ same (3, netT, starts) (ap (λ (f : Fault). f .number) (meets (3, netT, starts)) ∙ z)
+
+-- A reason that never names another path; and one that says of no path that it can come down
+pub alone-unfit : (program : ℕ × Lent × Table × ℕ × Table → Left Why Table) → Meets program explainingOf
+    → ((given : ℕ × Lent × Table × ℕ × Table) → program given .answer .number ≡ 0 → program given .answer .length ≡ 1) → ⊥
+alone-unfit program meets alone =
+    let given : ℕ × Lent × Table × ℕ × Table = (3, netT, three 1 4 10, 2, cleared 128 0) in
+    let is = meets given in
+    let one = alone given (ap (λ (r : Left Why Table). r .answer .number) is ∙ entry 13 answers) in
+    omega (arith, one, ap (λ (r : Left Why Table). r .answer .length) is, entry 11 differs)
+
+pub fixed-unfit : (program : ℕ × Lent × Table × ℕ × Table → Left Why Table) → Meets program explainingOf
+    → ((given : ℕ × Lent × Table × ℕ × Table) → program given .answer .number ≡ 0 → program given .answer .down ≡ 0) → ⊥
+fixed-unfit program meets fixed =
+    let given : ℕ × Lent × Table × ℕ × Table = (3, netT, three 20 10 30, 1, cleared 128 0) in
+    let is = meets given in
+    let none = fixed given (ap (λ (r : Left Why Table). r .answer .number) is ∙ entry 14 answers) in
+    omega (arith, none, ap (λ (r : Left Why Table). r .answer .down) is, entry 12 differs)
