@@ -1,4 +1,4 @@
--- How many slots short a pair is (RULES 4), of any two paths and as judging and pressing answer. Assumes
+-- How many slots short a pair is (RULES 4), of any two paths and as judging, pressing and why answer. Assumes
 -- nothing.
 use Prim.Native.Nat.{ℕ, _+_, _-_, _≤_, _<_}
 use mathlib.Core.Path.{_≡_, refl, sym, ap, _∙_}
@@ -11,23 +11,24 @@ use lib.ListN.{length, set}
 use lib.Dec.{eqb}
 use borrow.Author.Tests.{lt-ltb, le-ltb}
 use Rattle.rules.specs.declared.Fault.{Fault}
+use Rattle.rules.specs.declared.Why.{Why}
 use Rattle.rules.specs.Tables.{at, cell, Lent}
 use Rattle.rules.specs.Limits.{Network, Starts}
 use Rattle.rules.specs.Plan.{Net, netOf, Conflict, end, past, Clear, isLower, short, tooClose, setDistance}
-use Rattle.rules.specs.Numbers.{noFault, _orElse_, scan, sizeFault, startFault, clashFault, lentFault, judgeFault}
-use Rattle.rules.specs.Calls.{judging, pressing}
-use Rattle.rules.specs.Refusing.{Nowhere, Refusal, Gives, sizeTest, startTest, clashTest, lentTests, judgeTests}
+use Rattle.rules.specs.Numbers.{noFault, _orElse_, scan, sizeFault, startFault, clashFault, pathFault, lentFault, planSizes, judgeFault, whyFault}
+use Rattle.rules.specs.Calls.{Left, judging, pressing, refusedWhy, doneWhy, explaining}
+use Rattle.rules.specs.Refusing.{Nowhere, Refusal, Gives, sizeTest, startTest, clashTest, pathTest, lentTests, judgeTests, whyTests}
 use Rattle.table_laws.specs.Tables.{at-same, at-other}
-use Rattle.table_laws.specs.Faults.{or-second, or-past, never-refuse, never-size, never-lent, size-clear}
-use Rattle.table_laws.specs.Limits.{starts-within}
-use Rattle.table_laws.specs.Chains.{lent-clear}
+use Rattle.table_laws.specs.Faults.{or-first, or-second, or-clear, or-assoc, or-past, never-or, never-refuse, never-size, never-lent, size-clear, size-good}
+use Rattle.table_laws.specs.Limits.{clear-of, starts-within}
+use Rattle.table_laws.specs.Chains.{lent-clear, plan-sizes}
 use Rattle.plan_laws.specs.Fits.{network-bounds}
 use Rattle.plan_laws.specs.Short.{lower-below, lower-above, short-below, short-above, zero-clear, clear-zero}
-use Rattle.plan_laws.specs.Answers.{judging-judgeable}
+use Rattle.plan_laws.specs.Answers.{unless-refused, unless-number, judging-judgeable}
 use Rattle.plan_laws.specs.Clash.{close-parts}
 use Rattle.plan_laws.specs.Judge.{clear-distance, distance-clear, distance-below, distance-above}
 use Rattle.demands.specs.Tests.{told, Squared, allRight, firstBad, squared, gives-one, silent-rest}
-use Rattle.demands.specs.OnRefusing.{unsaid, lent-unsaid, judging-gives, pressing-gives}
+use Rattle.demands.specs.OnRefusing.{unsaid, lent-unsaid, judging-gives, pressing-gives, explaining-gives}
 
 -- of two paths the lower and the upper
 unfoldable pub lower : (ℕ → ℕ) → ℕ → ℕ → ℕ
@@ -220,6 +221,59 @@ module _ (n : ℕ) (lent : Lent) (starts : List ℕ) where
   pub pressing-silent : pressing n lent starts .answer .number ≢ 8 → pressing n lent starts .answer .short ≡ 0
   pressing-silent h =
       ap (λ (f : Fault). f .short) pressing-judges ∙ judging-silent (λ z. h (ap (λ (f : Fault). f .number) pressing-judges ∙ z))
+
+  -- and so does why, where the chain's table is of its size
+  module _ (path : ℕ) (table : List ℕ) where
+    abbrev why : Fault
+    why = told (explaining n lent starts path table .answer .number) (explaining n lent starts path table .answer .place) (explaining n lent starts path table .answer .short)
+
+    pub explaining-judges : length table ≡ 128 → judging n lent starts .number ≢ 0 → why ≡ judging n lent starts
+    unfolding judging judgeFault whyFault planSizes explaining refusedWhy
+    explaining-judges size h =
+        let tests = or-assoc (lentFault n lent (sizeFault starts 128)) (startFault n starts orElse clashFault n net starts) (pathFault n path) in
+        let both = or-assoc (startFault n starts) (clashFault n net starts) (pathFault n path) in
+        let first = or-first (judgeFault n lent starts) (pathFault n path) h in
+        let is : whyFault n lent starts path table ≡ judgeFault n lent starts
+        = ap (λ (x : Fault). lentFault n lent x orElse (startFault n starts orElse (clashFault n net starts orElse pathFault n path))) (or-second (sizeFault table 128) (sizeFault starts 128) (clear-of (sym (size-good table 128 size))))
+        ∙ ap (λ (x : Fault). lentFault n lent (sizeFault starts 128) orElse x) (sym both) ∙ sym tests ∙ first in
+        let r = unless-refused (whyFault n lent starts path table) (refusedWhy table) (doneWhy net (at starts) n path table) (λ z. h (sym (ap (λ (x : Fault). x .number) is) ∙ z)) in
+        ap (λ (l : Left Why (List ℕ)). told (l .answer .number) (l .answer .place) (l .answer .short)) r ∙ is
+
+    pub explaining-short : why .number ≡ 8 → Says n lent starts why
+    unfolding judging judgeFault whyFault explaining refusedWhy doneWhy
+    explaining-short z =
+        let f : whyFault n lent starts path table .number ≡ 8
+        = sym (unless-number (λ (l : Left Why (List ℕ)). l .answer .number) (whyFault n lent starts path table) (refusedWhy table) _ refl refl) ∙ z in
+        let a = or-past _ _ 8 (never-lent n lent (planSizes table starts) 8 (sizes 8 (λ e. omega arith)) (inr (omega arith))) f in
+        let b = or-past _ _ 8 not-start (a .1) in
+        let size = plan-sizes table starts (lent-clear n lent (planSizes table starts) (a .0) .1) .0 in
+        let e = explaining-judges size (λ q. clashes (b .1) (or-clear _ _ (or-clear _ _ q .1) .1)) in
+        rw e (judging-short (sym (ap (λ (x : Fault). x .number) e) ∙ z))
+      where
+        sizes : (x : ℕ) → x ≢ 2 → planSizes table starts .number ≡ x → x ≡ 0
+        sizes x ne = unfold planSizes in (never-or _ _ x (never-size table 128 x ne) (never-size starts 128 x ne))
+
+        not-start : startFault n starts .number ≡ 8 → _≡_ {A = ℕ} 8 0
+        not-start e = unfold startFault scan in (never-refuse _ 7 _ 8 (λ q. omega arith) e)
+
+        clashes : (clashFault n net starts orElse pathFault n path) .number ≡ 8 → clashFault n net starts .number ≡ 0 → ⊥
+        clashes h q = unfold pathFault in
+            (absurd (omega (arith, never-refuse _ 6 _ 8 (λ e. omega arith) (sym (ap (λ (x : Fault). x .number) (or-second (clashFault n net starts) (pathFault n path) q)) ∙ h))))
+
+    pub explaining-silent : why .number ≢ 8 → why .short ≡ 0
+    unfolding Gives whyTests
+    explaining-silent h =
+        go (silent-rest (lentTests n lent (sizeTest table 128 ∷ sizeTest starts 128 ∷ [])) (startTest n starts ∷ clashTest n net starts ∷ pathTest n path ∷ []) why
+        (lent-unsaid n lent (sizeTest table 128 ∷ sizeTest starts 128 ∷ []) (unsaid, (unsaid, tt))) (explaining-gives n lent starts path table))
+      where
+        go : (why .short ≡ 0) ⊎ (Refusal (startTest n starts) why
+            ⊎ (Nowhere (startTest n starts) × (Refusal (clashTest n net starts) why ⊎ (Nowhere (clashTest n net starts) × (Refusal (pathTest n path) why ⊎ (Nowhere (pathTest n path) × (why ≡ noFault)))))))
+            → why .short ≡ 0
+        go (inl e) = e
+        go (inr (inl r)) = r .short
+        go (inr (inr (x, inl r))) = absurd (h (r .number))
+        go (inr (inr (x, inr (y, inl r)))) = r .short
+        go (inr (inr (x, inr (y, inr (w, e))))) = ap (λ (a : Fault). a .short) e
 
 -- so the table with the upper path so many slots higher, judged, is not refused at that cell again; with fewer
 -- it is refused still
