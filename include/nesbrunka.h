@@ -10,6 +10,7 @@
  *                                      diagonal is 255, the cells of i,j and j,i are equal
  *   starts   128 numbers of 16 bits    each 1 to 16,384; 0 is no start
  *   order    128 bytes                 the first n hold each of 0 to n-1 once
+ *   chain    128 bytes                 the paths that nesbrunka_why names
  *   labels   1,024 bytes               eight a path, filled at the end with zero bytes
  *
  * What stands in the cells past n makes no difference, and only nesbrunka_read changes it.
@@ -49,7 +50,7 @@ extern "C" {
 
 /* Sizes of tables. */
 enum {
-    NESBRUNKA_PATHS = 128,   /* cells of widths, starts and orders; the most paths */
+    NESBRUNKA_PATHS = 128,   /* cells of widths, starts, orders and chains; the most paths */
     NESBRUNKA_CELLS = 16384, /* cells of guards */
     NESBRUNKA_LABEL = 8,     /* bytes of a label */
     NESBRUNKA_LABELS = 1024  /* bytes of all labels */
@@ -82,7 +83,7 @@ enum {
     NESBRUNKA_REFUSED_GUARD = 4,
     /* the two cells of a pair differ; the cell above the diagonal */
     NESBRUNKA_REFUSED_MIRROR = 5,
-    /* an order's entry is no path, or comes twice; position */
+    /* an order's entry is no path, or comes twice; position; the path asked for is none; 0 */
     NESBRUNKA_REFUSED_ENTRY = 6,
     /* a start outside 1 to 16,384; path or line */
     NESBRUNKA_REFUSED_START = 7,
@@ -125,6 +126,14 @@ typedef struct {
     size_t short_;  /* with number 8, how many slots the pair lacks; else 0 */
     size_t highest; /* the highest slot */
 } nesbrunka_pressed;
+
+typedef struct {
+    size_t number;
+    size_t place;
+    size_t short_; /* with number 8, how many slots the pair lacks; else 0 */
+    size_t length; /* how many paths the chain has */
+    size_t down;   /* how many slots the last of them can come down; 0 in slot 1 */
+} nesbrunka_reason;
 
 typedef struct {
     size_t number;
@@ -180,6 +189,20 @@ nesbrunka_pressed nesbrunka_press(size_t n,
                                   const uint16_t *widths, size_t widths_length,
                                   const uint8_t *guards, size_t guards_length,
                                   uint16_t *starts, size_t starts_length);
+
+/* Why a path stands where it stands, in a valid plan: the chain of paths downwards, the path itself
+   first. Each next one is in conflict with the path before it, starts lower, and its end + guard +
+   1 is that path's start; of several it is the lowest number. The chain ends in slot 1, or at the
+   first path that nothing holds up: `down` says how many slots that one can come down, its lower
+   conflicting paths held. Where it ends in slot 1, no valid plan in which these paths keep their
+   order puts the path lower; a packed or pressed plan's chains all do. Tests 2, 1, 3, 4, 5, 7, 8,
+   and 6 with place 0 for a path of n or more. Writes the first `length` cells of the chain. */
+nesbrunka_reason nesbrunka_why(size_t n,
+                               const uint16_t *widths, size_t widths_length,
+                               const uint8_t *guards, size_t guards_length,
+                               const uint16_t *starts, size_t starts_length,
+                               size_t path,
+                               uint8_t *chain, size_t chain_length);
 
 /* Which of two orders packs to the lower highest slot: 1 the first, on equality too, 2 the second,
    0 where one of the two cannot be packed. Writes nothing. */

@@ -39,7 +39,7 @@
 #[rustfmt::skip]
 pub mod sys;
 
-pub use sys::{Floored, Judged, Packed, Planned, Pressed, SheetRead, SheetWritten, Sided};
+pub use sys::{Floored, Judged, Packed, Planned, Pressed, Reason, SheetRead, SheetWritten, Sided};
 
 /// Cells of widths, of starts and of an order; the most paths.
 pub const PATHS: usize = 128;
@@ -138,6 +138,35 @@ pub fn press(n: usize, widths: &[u16], guards: &[u8], starts: &mut [u16]) -> Pre
     let (w, g, s) = (widths.as_ptr(), guards.as_ptr(), starts.as_mut_ptr());
     // SAFETY: each pointer and length are those of one slice; the one written is borrowed alone.
     unsafe { sys::nesbrunka_press(n, w, widths.len(), g, guards.len(), s, starts.len()) }
+}
+
+/// Why a path stands where it stands, in a valid plan: into the first `length` cells of `chain` the
+/// path, then the conflicting lower path whose end + guard + 1 is its start, the lowest number where
+/// several fit, and so on down to slot 1, or to the first path that nothing holds up; `down` says
+/// how many slots that one can come down.
+///
+/// Tests in this order: 2, 1, 3, 4, 5, 7, 8, and 6 with place 0 for a path of n or more.
+#[inline]
+pub fn why(
+    n: usize, widths: &[u16], guards: &[u8], starts: &[u16], path: usize, chain: &mut [u8],
+) -> Reason {
+    let (w, g) = (widths.as_ptr(), guards.as_ptr());
+    let (s, c) = (starts.as_ptr(), chain.as_mut_ptr());
+    // SAFETY: each pointer and length are those of one slice; the one written is borrowed alone.
+    unsafe {
+        sys::nesbrunka_why(
+            n,
+            w,
+            widths.len(),
+            g,
+            guards.len(),
+            s,
+            starts.len(),
+            path,
+            c,
+            chain.len(),
+        )
+    }
 }
 
 /// The first n entries of the better of two orders, that part itself: of the one whose packing has

@@ -45,6 +45,22 @@ pub struct Pressed {
     pub highest: usize,
 }
 
+/// What the call `why` answers, beside the chain in its table.
+#[repr(C)]
+#[derive(Clone, Copy, Debug, PartialEq, Eq)]
+pub struct Reason {
+    /// 0, or the number of the refusal.
+    pub number: usize,
+    /// Where.
+    pub place: usize,
+    /// With number 8, how many slots short the pair is; else 0.
+    pub short: usize,
+    /// How many paths the chain has.
+    pub length: usize,
+    /// How many slots the last of them can come down; 0 in slot 1.
+    pub down: usize,
+}
+
 /// What the two-sided call answers, beside the order in its table.
 #[repr(C)]
 #[derive(Clone, Copy, Debug, PartialEq, Eq)]
@@ -132,6 +148,16 @@ extern "C" {
         guards: *const u8, guards_length: usize,
         starts: *mut u16, starts_length: usize,
     ) -> Pressed;
+
+    /// See [`crate::why`].
+    pub fn nesbrunka_why(
+        n: usize,
+        widths: *const u16, widths_length: usize,
+        guards: *const u8, guards_length: usize,
+        starts: *const u16, starts_length: usize,
+        path: usize,
+        chain: *mut u8, chain_length: usize,
+    ) -> Reason;
 
     /// See [`crate::better`]: 1 for the first order, 2 for the second, 0 for neither.
     pub fn nesbrunka_better(

@@ -66,6 +66,32 @@ fn pressing_refused() {
 }
 
 #[test]
+fn explaining() {
+    let (widths, guards) = network();
+    let mut chain = [9; PATHS];
+    let all = why(3, &widths, &guards, &table(&[1, 4, 10], 7), 2, &mut chain);
+    assert_eq!(all, Reason { number: DONE, place: 0, short: 0, length: 3, down: 0 });
+    assert_eq!(chain, table(&[2, 1, 0], 9));
+    // Path 2 stands one slot above where path 1 holds it up.
+    let free = why(3, &widths, &guards, &table(&[1, 4, 11], 7), 2, &mut chain);
+    assert_eq!(free, Reason { number: DONE, place: 0, short: 0, length: 1, down: 1 });
+    assert_eq!(chain, table(&[2, 1, 0], 9));
+}
+
+#[test]
+fn explaining_refused() {
+    let (widths, guards) = network();
+    let mut chain = [9; PATHS];
+    let close = why(3, &widths, &guards, &table(&[3, 2, 20], 7), 3, &mut chain);
+    assert_eq!(close, Reason { number: REFUSED_CLASH, place: 1, short: 4, length: 0, down: 0 });
+    let none = why(3, &widths, &guards, &table(&[1, 4, 10], 7), 3, &mut chain);
+    assert_eq!(none, Reason { number: REFUSED_ENTRY, place: 0, short: 0, length: 0, down: 0 });
+    let small = why(3, &widths, &guards, &table(&[1, 4, 10], 7), 0, &mut chain[1..]);
+    assert_eq!(small.number, REFUSED_SIZE);
+    assert_eq!(chain, [9; PATHS]);
+}
+
+#[test]
 fn comparing() {
     let (widths, guards) = network();
     let (high, low) = (table(&[0, 1, 2], 9), table(&[1, 0, 2], 9));

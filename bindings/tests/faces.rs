@@ -64,12 +64,13 @@ fn calls() -> Vec<Shape> {
     all(&face, "pub extern\"C\"fn ", "{").map(shape).collect()
 }
 
-/// An answer's name outside Rattle, where judging answers what every test does, a `Fault`.
+/// An answer's name outside Rattle: judging answers what every test does, a `Fault`, and in C `Why`
+/// would have the name of its call.
 fn outside(name: &str) -> &str {
-    if name == "Fault" {
-        "Judged"
-    } else {
-        name
+    match name {
+        "Fault" => "Judged",
+        "Why" => "Reason",
+        same => same,
     }
 }
 

@@ -25,6 +25,16 @@ fn press(n: usize, widths: &[u16], guards: &[u8], starts: &mut [u16]) {
     show::numbers(b" starts", starts);
 }
 
+fn why(line: &[u8], n: usize, widths: &[u16], guards: &[u8], starts: &[u16], chain: &mut [u8]) {
+    let path = number(line, b" path", b'=', 0);
+    let r = reason::why(n, widths, guards, starts, path, chain);
+    show::answer(r.number, r.place);
+    show::value(b" short", r.short);
+    show::value(b" length", r.length);
+    show::value(b" down", r.down);
+    show::bytes(b" chain", chain);
+}
+
 fn better<'a>(n: usize, widths: &[u16], guards: &[u8], order: &'a [u8], other: &'a [u8]) {
     let part = packing::better(n, widths, guards, order, other);
     show::value(b" entries", part.len());
@@ -100,6 +110,10 @@ pub fn call(
     }
     if has(line, b" press") {
         press(n, widths, guards, starts);
+        return;
+    }
+    if has(line, b" why") {
+        why(line, n, widths, guards, starts, order);
         return;
     }
     if has(line, b" better") {

@@ -8,9 +8,10 @@ use rules::Pressed;
 use rules::SheetRead;
 use rules::SheetWritten;
 use rules::Sided;
+use rules::Why;
 ghost use mathlib.Core.Path.{_≡_};
 ghost use Rattle.rules.specs.Tables.{lend};
-ghost use Rattle.rules.specs.Calls.{left, judging, packing, pressing, siding, improving, planning, flooring, reading, writing};
+ghost use Rattle.rules.specs.Calls.{left, judging, packing, pressing, explaining, siding, improving, planning, flooring, reading, writing};
 ghost use Rattle.rules.specs.Better.{comparing};
 
 #[no_mangle]
@@ -47,6 +48,22 @@ pub extern "C" fn nesbrunka_press(
         ≡ pressing n (lend (now (widths .entry)) (now (guards .entry))) (now (starts .entry)) ⌝ }
 {
     packing::press(n, widths, guards, starts)
+}
+
+#[no_mangle]
+pub extern "C" fn nesbrunka_why(
+    n: usize,
+    widths: &[u16],
+    guards: &[u8],
+    starts: &[u16],
+    path: usize,
+    chain: &mut [u8],
+) -> Why
+    ensures { λ r. ⌜ left r (now (chain .exit))
+        ≡ explaining n (lend (now (widths .entry)) (now (guards .entry))) (now (starts .entry)) path
+        (now (chain .entry)) ⌝ }
+{
+    reason::why(n, widths, guards, starts, path, chain)
 }
 
 // An exported function cannot return a reference: 1 for the first order, 2 for the second, 0 for neither.
