@@ -186,6 +186,25 @@ pub fn press(n: usize, widths: &[u16], guards: &[u8], starts: &mut [u16]) -> Ans
     Answer::of(run())
 }
 
+/// L2: 6 for a path of n or more, place 0, comes after 8. The chain takes the first cells of its
+/// table; its length is answered, and how far its last path can come down.
+pub fn why(
+    n: usize, widths: &[u16], guards: &[u8], starts: &[u16], path: usize, chain: &mut [u8],
+) -> Answer {
+    let mut run = || {
+        sizes(&[(widths.len(), PATHS), (guards.len(), CELLS)])?;
+        sizes(&[(starts.len(), PATHS), (chain.len(), PATHS)])?;
+        let net = network(n, widths, guards)?;
+        let starts = starts_of(n, starts)?;
+        valid(&net, &starts)?;
+        refuse_at(6, (path >= n).then_some(0))?;
+        let reason = rules::why(&net, &starts, path);
+        put_order(&reason.chain, chain);
+        Ok(Answer::done(reason.chain.len(), reason.down))
+    };
+    Answer::of(run())
+}
+
 /// RULES 7.
 pub fn two_sides(n: usize, widths: &[u16], guards: &[u8], order: &mut [u8]) -> Answer {
     let mut run = || {

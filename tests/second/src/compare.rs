@@ -7,7 +7,7 @@ use crate::net::Network;
 use crate::sheet;
 use std::fmt::Write as _;
 
-/// The calls, and the plan program.
+/// The calls, the plan program and the program ask.
 #[derive(Clone, Copy, Debug, PartialEq, Eq)]
 pub enum Call {
     Judge,
@@ -18,12 +18,14 @@ pub enum Call {
     Improve,
     Better,
     Floor,
+    Why,
     Read,
     Write,
     Program,
+    Ask,
 }
 
-pub const CALLS: [(Call, &str); 11] = [
+pub const CALLS: [(Call, &str); 13] = [
     (Call::Judge, "judge"),
     (Call::Pack, "pack"),
     (Call::Press, "press"),
@@ -32,9 +34,11 @@ pub const CALLS: [(Call, &str); 11] = [
     (Call::Improve, "improve"),
     (Call::Better, "better"),
     (Call::Floor, "floor"),
+    (Call::Why, "why"),
     (Call::Read, "read"),
     (Call::Write, "write"),
     (Call::Program, "program"),
+    (Call::Ask, "ask"),
 ];
 
 impl Call {
@@ -55,6 +59,9 @@ pub struct Case {
     pub second: Vec<u8>,
     /// A floor's list.
     pub list: Vec<u8>,
+    /// The path that is asked about, and the table for its chain.
+    pub path: usize,
+    pub chain: Vec<u8>,
     pub seed: u32,
     pub rounds: usize,
     pub labels: Vec<u8>,
@@ -82,8 +89,9 @@ impl Case {
             Call::TwoSides => &["widths", "guards", "order"],
             Call::Better => &["widths", "guards", "order", "second"],
             Call::Floor => &["widths", "guards", "list"],
+            Call::Why => &["path", "widths", "guards", "starts", "chain"],
             Call::Read | Call::Write => &["text", "labels", "widths", "guards", "starts"],
-            Call::Program => &["text"],
+            Call::Program | Call::Ask => &["text"],
         };
         for name in tables {
             let _ = match *name {
@@ -93,6 +101,8 @@ impl Case {
                 "order" => writeln!(out, "  order {}", runs(&self.order)),
                 "second" => writeln!(out, "  second {}", runs(&self.second)),
                 "list" => writeln!(out, "  list {}", runs(&self.list)),
+                "path" => writeln!(out, "  path {}", self.path),
+                "chain" => writeln!(out, "  chain {}", runs(&self.chain)),
                 "labels" => writeln!(out, "  labels {}", bytes(&self.labels)),
                 _ => writeln!(out, "  text {}", bytes(&self.text)),
             };
@@ -135,9 +145,9 @@ pub struct Tally<'a> {
     /// Networks or sheets.
     pub cases: u64,
     /// Comparisons of each call.
-    pub calls: [u64; 11],
+    pub calls: [u64; CALLS.len()],
     /// The numbers that each call had to answer, so that none goes untried.
-    pub numbers: [[u64; NUMBERS]; 11],
+    pub numbers: [[u64; NUMBERS]; CALLS.len()],
     /// Brute-force checks of what the library answered.
     pub checks: u64,
     pub different: u64,
@@ -156,8 +166,8 @@ impl<'a> Tally<'a> {
             chosen,
             place,
             cases: 0,
-            calls: [0; 11],
-            numbers: [[0; NUMBERS]; 11],
+            calls: [0; CALLS.len()],
+            numbers: [[0; NUMBERS]; CALLS.len()],
             checks: 0,
             different: 0,
             shown: Vec::new(),
@@ -204,23 +214,27 @@ impl<'a> Tally<'a> {
 
     /// A check of the library's answers by brute force.
     pub fn check(&mut self, what: &str, case: &Case, holds: bool) {
+        let call = if case.text.is_empty() { Call::Pack } else { Call::Write };
+        self.check_of(call, what, case, holds);
+    }
+
+    /// The same, the case shown as the call takes it.
+    pub fn check_of(&mut self, call: Call, what: &str, case: &Case, holds: bool) {
         self.checks += 1;
         if !holds {
-            let call = if case.text.is_empty() { Call::Pack } else { Call::Write };
             self.differ(&format!("does not hold: {what}\n"), &case.show(call));
         }
     }
 
-    /// The plan program's output against its expected output.
-    pub fn program(&mut self, how: &str, case: &Case, got: &[u8], want: &[u8]) {
-        let refused = want.strip_prefix(b"refused ").map(|rest| &rest[..2.min(rest.len())]);
-        let number = refused.and_then(|digits| String::from_utf8_lossy(digits).trim().parse().ok());
-        self.calls[Call::Program as usize] += 1;
-        self.numbers[Call::Program as usize][number.unwrap_or(0)] += 1;
+    /// A program's output against its expected output.
+    pub fn program(&mut self, call: Call, how: &str, case: &Case, got: &[u8], want: &[u8]) {
+        self.calls[call as usize] += 1;
+        self.numbers[call as usize][number_in(want)] += 1;
         if got != want {
             let (got, want) = (got.escape_ascii(), want.escape_ascii());
-            let what = format!("program ({how}) printed \"{got}\"\n  expected \"{want}\"\n");
-            self.differ(&what, &case.show(Call::Program));
+            let name = call.name();
+            let what = format!("{name} ({how}) printed \"{got}\"\n  expected \"{want}\"\n");
+            self.differ(&what, &case.show(call));
         }
     }
 
@@ -229,6 +243,18 @@ impl<'a> Tally<'a> {
         if self.shown.len() < SHOWN {
             self.shown.push(format!("{}: {what}{case}", self.place));
         }
+    }
+}
+
+/// The number that a program's output stands for.
+fn number_in(output: &[u8]) -> usize {
+    let text = String::from_utf8_lossy(output);
+    let refused = text.strip_prefix("refused ").and_then(|rest| rest.split(' ').next());
+    match refused.and_then(|digits| digits.parse().ok()) {
+        Some(number) => number,
+        None if text.contains(" clash: ") => 8,
+        None if text.starts_with("No path ") => 6,
+        None => 0,
     }
 }
 
@@ -383,7 +409,21 @@ pub fn floor(t: &mut Tally, c: &Case) -> Option<Outcome> {
     Some(settle_with(t, Call::Floor, c, l, ("list", &list, &c.list), got, want))
 }
 
-/// Compares one read-only table more.
+/// The library's chain comes back, its whole table.
+pub fn why(t: &mut Tally, c: &Case) -> Option<(Answer, Vec<u8>)> {
+    if !t.begin(Call::Why, c) {
+        return None;
+    }
+    let mut l = Lending::new(c);
+    let mut chain = Lent::new(&c.chain);
+    let got = ffi::why(c.n, &mut l.widths, &mut l.guards, &mut l.starts, c.path, &mut chain);
+    let mut own = c.chain.clone();
+    let want = calls::why(c.n, &c.widths, &c.guards, &c.starts, c.path, &mut own);
+    settle_with(t, Call::Why, c, l, ("chain", &chain, &own), got, want);
+    Some((got, chain.contents().to_vec()))
+}
+
+/// Compares one table more, with what it should hold.
 fn settle_with(
     t: &mut Tally, call: Call, c: &Case, l: Lending, more: (&str, &Lent<u8>, &[u8]), got: Answer,
     want: Answer,
@@ -449,6 +489,7 @@ pub fn all_calls(t: &mut Tally, c: &Case) {
     judge(t, c);
     pack(t, c);
     press(t, c);
+    why(t, c);
     two_sides(t, c);
     plan(t, c);
     improve(t, c);

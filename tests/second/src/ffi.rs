@@ -86,6 +86,14 @@ pub fn press(
     Answer::new(r.number, r.place, [r.highest, 0]).with_short(r.short)
 }
 
+pub fn why(
+    n: usize, widths: &mut Lent<u16>, guards: &mut Lent<u8>, starts: &mut Lent<u16>, path: usize,
+    chain: &mut Lent<u8>,
+) -> Answer {
+    let r = call!(nesbrunka_why(n; widths, guards, starts; path, chain.pointer(), chain.len()));
+    Answer::new(r.number, r.place, [r.length, r.down]).with_short(r.short)
+}
+
 pub fn two_sides(
     n: usize, widths: &mut Lent<u16>, guards: &mut Lent<u8>, order: &mut Lent<u8>,
 ) -> Answer {

@@ -1,6 +1,7 @@
 //! Self-checks that need no library: the figures of RULES 20 and outside vectors, on this
 //! program's own implementation.
 
+use crate::ask;
 use crate::brute;
 use crate::calls::{self, Answer};
 use crate::net::*;
@@ -182,6 +183,97 @@ fn short_by_slots() {
     }
 }
 
+/// Why a path of T stands where it does: the answer, and the table of the chain, which held 9s.
+fn why_in_t(starts: [u16; 3], path: usize) -> (Answer, Vec<u8>) {
+    let (widths, guards) = t_tables();
+    let mut chain = vec![9; PATHS];
+    let answer = calls::why(3, &widths, &guards, &long(&starts), path, &mut chain);
+    (answer, chain)
+}
+
+/// A chain in its table of 9s, and how far its last path can come down.
+fn chain(paths: &[u8], down: usize) -> (Answer, Vec<u8>) {
+    let mut table = paths.to_vec();
+    table.resize(PATHS, 9);
+    (Answer::done(paths.len(), down), table)
+}
+
+/// Worked by hand in the plans of P1 to P4. Starts 1, 4, 10: path 1 ends at 7 and asks 10 of path
+/// 2, path 0 ends at 2 and asks 4 of path 1. Starts 6, 1, 8: path 0 ends at 7 and asks 8 of path 2,
+/// path 1 ends at 4 and asks 6 of path 0 and 7 of path 2.
+#[test]
+fn why_in_packed_plans() {
+    assert_eq!(why_in_t([1, 4, 10], 2), chain(&[2, 1, 0], 0));
+    assert_eq!(why_in_t([1, 4, 10], 1), chain(&[1, 0], 0));
+    assert_eq!(why_in_t([1, 4, 10], 0), chain(&[0], 0));
+    assert_eq!(why_in_t([11, 6, 1], 0), chain(&[0, 1, 2], 0));
+    assert_eq!(why_in_t([6, 1, 8], 2), chain(&[2, 0, 1], 0));
+    assert_eq!(why_in_t([1, 8, 3], 1), chain(&[1, 2, 0], 0));
+}
+
+/// Worked by hand in the plan of P5, before it is pressed: starts 20, 10, 30. Path 0 ends at 21 and
+/// asks 22 of path 2; path 1 ends at 13, asks 15 of path 0 and 16 of path 2.
+#[test]
+fn why_in_loose_plans() {
+    assert_eq!(why_in_t([20, 10, 30], 2), chain(&[2], 8));
+    assert_eq!(why_in_t([20, 10, 30], 0), chain(&[0], 5));
+    assert_eq!(why_in_t([20, 10, 30], 1), chain(&[1], 9));
+    assert_eq!(why_in_t([2, 5, 11], 2), chain(&[2, 1, 0], 1));
+    assert_eq!(why_in_t([1, 5, 11], 2), chain(&[2, 1], 1));
+    assert_eq!(why_in_t([1, 4, 11], 2), chain(&[2], 1));
+    assert_eq!(why_in_t([16_384, 1, 8], 0), chain(&[0], 16_373));
+}
+
+/// Path 2 rests on paths 0 and 1 in one slot each; path 0 on 1 and 2, where it is the upper one.
+#[test]
+fn why_with_two_supports() {
+    let why = |conflicts: &[(usize, usize, u8)], starts: [usize; 3], path: usize| {
+        rules::why(&Network::of(&[1, 1, 1], conflicts), &starts, path).chain
+    };
+    assert_eq!(why(&[(0, 2, 0), (1, 2, 0)], [1, 1, 2], 2), [2, 0]);
+    assert_eq!(why(&[(0, 1, 0), (0, 2, 0)], [2, 1, 1], 0), [0, 1]);
+    assert_eq!(why(&[(1, 2, 0)], [1, 1, 2], 2), [2, 1]);
+    assert_eq!(why(&[(0, 2, 1), (1, 2, 0)], [1, 2, 3], 2), [2, 0]);
+}
+
+/// 6 comes after 7 and 8, with place 0; a chain's table of another size is 2.
+#[test]
+fn why_refused() {
+    let unchanged = |answer: Answer| (answer, vec![9; PATHS]);
+    assert_eq!(why_in_t([1, 4, 10], 3), unchanged(refused(6, 0)));
+    assert_eq!(why_in_t([1, 4, 10], usize::MAX), unchanged(refused(6, 0)));
+    assert_eq!(why_in_t([1, 4, 9], 3), unchanged(clash(1, 2, 1)));
+    assert_eq!(why_in_t([5, 5, 20], 0), unchanged(clash(0, 1, 3)));
+    assert_eq!(why_in_t([5, 5, 0], 3), unchanged(refused(7, 2)));
+    let (widths, guards) = t_tables();
+    let short = calls::why(129, &widths, &guards, &long(&[1, 4, 10]), 3, &mut [9; PATHS - 1]);
+    assert_eq!(short, refused(2, 0));
+}
+
+/// All plans of three paths with starts up to 7: the chain and the way down by the slots.
+#[test]
+fn why_by_slots() {
+    let nets = [
+        Network::of(&[2, 1, 1], &[(0, 1, 1), (1, 2, 0), (0, 2, 0)]),
+        Network::of(&[1, 2, 1], &[(0, 1, 0), (1, 2, 1)]),
+    ];
+    for net in nets {
+        let plans = (0..343).map(|number| brute::plan_of(number, 7, 3));
+        for starts in plans.filter(|starts| brute::valid_by_sets(&net, starts)) {
+            for path in 0..3 {
+                let reason = rules::why(&net, &starts, path);
+                let last = reason.chain[reason.chain.len() - 1];
+                let support = |p: usize| brute::first_support(&net, &starts, p);
+                assert!(reason.chain.windows(2).all(|two| support(two[0]) == Some(two[1])));
+                assert_eq!((reason.chain[0], support(last)), (path, None));
+                assert!(brute::is_way_down(&net, &starts, last, reason.down));
+                assert!(!brute::is_way_down(&net, &starts, last, reason.down + 1));
+                assert!(reason.down == 0 || !brute::is_way_down(&net, &starts, last, 0));
+            }
+        }
+    }
+}
+
 #[test]
 fn p9_draws() {
     assert_eq!(rules::next_state(0), 0x3C6E_F35F);
@@ -267,6 +359,63 @@ fn run_program() {
     assert_eq!(sheet::program(input.as_bytes()), output.as_bytes());
     assert_eq!(sheet::program(b"paths 2\nA 1\nb 1\n"), b"refused 11 line 3\n");
     assert_eq!(sheet::program(output.as_bytes()), output.as_bytes());
+}
+
+const ASKED: &str = "paths 3\n0417 2\n417 4\nA9 1\nguards 2\n0417 417 1\n417 A9 2\n";
+
+/// What ask prints for words with spaces between, and for the network above with these starts.
+fn asked(words: &str, starts: [usize; 3]) -> String {
+    let [a, b, c] = starts;
+    asked_of(words, &format!("{ASKED}starts 3\n0417 {a}\n417 {b}\nA9 {c}\n"))
+}
+
+fn asked_of(words: &str, text: &str) -> String {
+    let args: Vec<Vec<u8>> = words.split(' ').map(|word| word.into()).collect();
+    String::from_utf8(ask::program(&args, text.as_bytes())).expect("it prints text")
+}
+
+/// Worked by hand: 0417 ends at 2 and asks 4 of 417, which ends at 7 and asks 10 of A9.
+#[test]
+fn ask_why() {
+    let chain = "A9 has slot 10.\nBelow it 417 has slots 4 to 7, and the guard is 2.\n\
+                 Below it 0417 has slots 1 to 2, and the guard is 1.\n\
+                 0417 is in slot 1, so A9 cannot come down in this order.\n";
+    assert_eq!(asked("why A9", [1, 4, 10]), chain);
+    let alone = "0417 has slots 1 to 2.\n0417 is in slot 1 and cannot come down.\n";
+    assert_eq!(asked("why 0417", [1, 4, 10]), alone);
+    assert_eq!(asked("why A9", [1, 4, 12]), "A9 has slot 12.\nA9 can come down 2 slots.\n");
+    let free = "A9 has slot 11.\nBelow it 417 has slots 5 to 8, and the guard is 2.\n\
+                417 can come down 1 slot.\n";
+    assert_eq!(asked("why A9", [1, 5, 11]), free);
+    let one = "417 has slots 4 to 7.\nBelow it A9 has slot 1, and the guard is 2.\n\
+               A9 is in slot 1, so 417 cannot come down in this order.\n";
+    assert_eq!(asked("why 417", [9, 4, 1]), one);
+}
+
+#[test]
+fn ask_judge_and_refusals() {
+    let valid = "The plan is valid. Its highest slot is 10.\n";
+    assert_eq!(asked("judge", [1, 4, 10]), valid);
+    for words in ["judge", "why A9", "why B"] {
+        assert_eq!(asked(words, [1, 3, 9]), "0417 and 417 clash: 1 slot short.\n");
+        assert_eq!(asked(words, [4, 4, 1]), "0417 and 417 clash: 3 slots short.\n");
+        assert_eq!(asked_of(words, ASKED), "The sheet has no plan.\n");
+        assert_eq!(asked_of(words, "paths 0\n"), "refused 1 line 1\n");
+    }
+    assert_eq!(asked("why B", [1, 4, 10]), "No path is called B.\n");
+}
+
+#[test]
+fn ask_for_words() {
+    for words in ["why ", "why a9", "why ABCDEFGHI", "why A_9"] {
+        let label = "A label has 1 to 8 capitals, digits or hyphens.\n";
+        assert_eq!(asked_of(words, "paths 0\n"), label);
+    }
+    assert_eq!(asked_of("why", ""), "Say which path: why LABEL.\n");
+    for words in ["", "Why A9", "judge A9", "why A9 A9", "why  ", "judges"] {
+        assert_eq!(asked_of(words, ""), "The words are why and judge.\n");
+    }
+    assert_eq!(ask::program(&[], b""), b"The words are why and judge.\n");
 }
 
 /// The longest sheet: RULES 13.

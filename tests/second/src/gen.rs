@@ -15,6 +15,11 @@ impl Rng {
         rng
     }
 
+    /// A generator of its own, made from this one, which goes on as if it had not been.
+    pub fn aside(&self) -> Rng {
+        Rng(self.0 ^ 0x5851_F42D_4C95_7F2D)
+    }
+
     pub fn bits(&mut self) -> u64 {
         self.0 = self.0.wrapping_add(0x9E37_79B9_7F4A_7C15);
         let mut z = self.0;
@@ -193,7 +198,8 @@ fn junk_word(rng: &mut Rng) -> u16 {
     }
 }
 
-/// A case without a fault: a network of the shape, an order, a plan, a list, labels and room.
+/// A case without a fault: a network of the shape, an order, a plan, a list, a path to ask about,
+/// labels and room.
 pub fn case(rng: &mut Rng, n: usize, shape: Shape) -> Case {
     let mut c = blank(rng, n);
     let (wide, far) = (rng.below(5), rng.below(5));
@@ -210,6 +216,9 @@ pub fn case(rng: &mut Rng, n: usize, shape: Shape) -> Case {
     c.labels = labels(rng, n);
     c.seed = seed(rng);
     c.text = vec![b'#'; rng.pick(&[0, 40, 400, LONGEST_SHEET])];
+    let mut aside = rng.aside();
+    c.path = aside.below(n);
+    c.chain = (0..PATHS).map(|_| junk_byte(&mut aside)).collect();
     c
 }
 
@@ -268,6 +277,18 @@ pub fn loose_plan(rng: &mut Rng, c: &Case) -> Vec<u16> {
         placed.push(path);
     }
     starts
+}
+
+/// A plan loosened upwards: now and again all paths from some path's start on go up together, so
+/// that it stays valid, and some of them rest on nothing then.
+pub fn loosen(rng: &mut Rng, starts: &mut [u16]) {
+    for _ in 0..rng.pick(&[1, 1, 2, 3]) {
+        let from = rng.pick(starts);
+        let top = starts.iter().copied().max().unwrap_or(0);
+        let most = (MAX_START as u16 - top).min(rng.pick(&[1, 1, 2, 9, 70]));
+        let step = rng.range(0, usize::from(most)) as u16;
+        starts.iter_mut().filter(|s| **s >= from).for_each(|s| *s += step);
+    }
 }
 
 /// A plan for judging and pressing: valid, valid but for some pairs, or anything; now and then at

@@ -1,10 +1,11 @@
 //! The independent second program: the rules written again, in plain Rust, and compared with
 //! the library through its C face.
 //!
-//! `net`, `rules`, `calls` and `sheet` are the rules; `brute` looks for its promises in all
+//! `net`, `rules`, `calls`, `sheet` and `ask` are the rules; `brute` looks for its promises in all
 //! orders, plans and sides; `gen` and `damage` make cases; `ffi` and `compare` make one
 //! comparison; `groups` are the groups of comparisons.
 
+mod ask;
 mod brute;
 mod calls;
 mod compare;
@@ -32,14 +33,15 @@ const USAGE: &str = "\
 second [--seed S] [--minutes M] [--only CALL,..] [--groups GROUP,..] [--threads T] [--trace]
   --seed S      the seed of the random cases (default 1)
   --minutes M   goes on with new seeds until so many minutes have passed
-  --only        calls to compare: judge pack press two_sides plan improve better floor read
-                write program (default: all)
+  --only        calls to compare: judge pack press two_sides plan improve better floor why read
+                write program ask (default: all)
   --groups      groups to run: exhaustive sizes small large rounds faults sheets program clashes
+                chains ask
   --threads T   threads (default: as many as there are processors)
   --trace       names each call and its case before it is made (for a library that crashes)
 second --print  prints what the plan program has to print for standard input; calls no library
 NESBRUNKA_LIB (when built, an absolute path) is the folder of libnesbrunka.a, NESBRUNKA_PLAN the
-plan program.";
+plan program, NESBRUNKA_ASK the program ask.";
 
 struct Options {
     seed: u64,
@@ -110,6 +112,9 @@ fn group(name: &str) -> Result<&'static Group, String> {
 fn run(o: &Options) -> ExitCode {
     if program::named().is_none() && o.chosen.calls.contains(&Call::Program) {
         println!("NESBRUNKA_PLAN is not set: the plan program is skipped");
+    }
+    if groups::ask::named().is_none() && o.chosen.calls.contains(&Call::Ask) {
+        println!("NESBRUNKA_ASK is not set: the program ask is skipped");
     }
     let begin = Instant::now();
     let mut total = Tally::new(&o.chosen, String::new());

@@ -1,4 +1,5 @@
-//! RULES 4 to 12: what packing, pressing, sides, planning, improving and floors are.
+//! RULES 4 to 12: what packing, pressing, sides, planning, improving and floors are; and L2, why a
+//! path stands where it stands.
 //!
 //! Everything here is about a network that has passed its tests; refusals are in `calls`.
 
@@ -54,6 +55,42 @@ pub fn press(net: &Network, starts: &[usize]) -> Vec<usize> {
     let mut order: Vec<usize> = (0..net.paths()).collect();
     order.sort_by_key(|&path| (starts[path], path));
     pack(net, &order)
+}
+
+/// What L2 answers: the chain down from a path, and how many slots its last path can come down.
+pub struct Reason {
+    pub chain: Vec<usize>,
+    pub down: usize,
+}
+
+/// L2: link after link, down to a path in slot 1 or to the first path that has no link.
+pub fn why(net: &Network, starts: &[usize], path: usize) -> Reason {
+    let mut chain = vec![path];
+    let mut last = path;
+    while let Some(lower) = link(net, starts, last) {
+        chain.push(lower);
+        last = lower;
+    }
+    Reason { chain, down: way_down(net, starts, last) }
+}
+
+/// L2: the conflicting lower path whose end + guard + 1 is the start of this one, of several the
+/// one of the lowest number. A path in slot 1 has none.
+fn link(net: &Network, starts: &[usize], path: usize) -> Option<usize> {
+    let carries = |&other: &usize| match net.guard(path, other) {
+        Some(guard) if starts[other] < starts[path] => {
+            end(net, other, starts[other]) + guard + 1 == starts[path]
+        }
+        _ => false,
+    };
+    (0..net.paths()).find(|other| starts[path] > 1 && carries(other))
+}
+
+/// L2: the slots from a path down to the first start past its conflicting lower paths, which are
+/// held.
+fn way_down(net: &Network, starts: &[usize], path: usize) -> usize {
+    let lower: Vec<usize> = (0..net.paths()).filter(|&p| starts[p] < starts[path]).collect();
+    starts[path] - start_after(net, path, &lower, starts)
 }
 
 /// RULES 7: who is high, or nothing if there are no two sides.

@@ -67,7 +67,7 @@ impl<'a> Lines<'a> {
 }
 
 /// 1 to 8 digits, capitals or hyphens.
-fn is_label(bytes: &[u8]) -> bool {
+pub fn is_label(bytes: &[u8]) -> bool {
     let allowed = |b: &u8| matches!(b, b'0'..=b'9' | b'A'..=b'Z' | b'-');
     (1..=LABEL).contains(&bytes.len()) && bytes.iter().all(allowed)
 }

@@ -5,6 +5,7 @@ use crate::brute;
 use crate::calls::Answer;
 use crate::compare::{self, Case, Tally};
 use crate::gen::{self, Rng};
+use crate::groups::chains;
 use crate::net::*;
 
 /// The least and the largest, their neighbours, and one in between.
@@ -33,7 +34,9 @@ fn every_distance(t: &mut Tally, widths: [u16; 2], guard: u8) {
         for starts in [low, high] {
             let c = pair(widths, starts, guard);
             t.cases += 1;
-            by_slots(t, &c, &c.network());
+            let net = c.network();
+            by_slots(t, &c, &net);
+            chains::told(t, &Case { path: 1, ..c }, &net);
         }
     }
 }
@@ -42,16 +45,19 @@ fn every_distance(t: &mut Tally, widths: [u16; 2], guard: u8) {
 fn pair(widths: [u16; 2], starts: [u16; 2], guard: u8) -> Case {
     let table = |first: [u16; 2]| [&first[..], &[7; PATHS - 2]].concat();
     let (widths, starts) = (table(widths), table(starts));
-    let mut c = Case { n: 2, widths, starts, guards: vec![NONE; CELLS], ..Case::default() };
+    let (guards, chain) = (vec![NONE; CELLS], vec![77; PATHS]);
+    let mut c = Case { n: 2, widths, starts, guards, chain, ..Case::default() };
     gen::set_guard(&mut c, 0, 1, guard);
     c
 }
 
-/// A plan judged and pressed, each answer held against its slots.
+/// A plan judged and pressed, and one of its paths asked about, each answer held against its slots.
 pub fn by_slots(t: &mut Tally, c: &Case, net: &Network) {
     let clash = brute::first_close_pair(net, &c.plan());
-    for got in [compare::judge(t, c), compare::press(t, c)].into_iter().flatten() {
-        hold(t, c, net, clash, got.answer);
+    let tested = [compare::judge(t, c), compare::press(t, c)].map(|got| got.map(|g| g.answer));
+    let asked = chains::told(t, c, net).map(|told| told.answer);
+    for answer in tested.into_iter().chain([asked]).flatten() {
+        hold(t, c, net, clash, answer);
     }
 }
 

@@ -1,9 +1,10 @@
 //! All networks of up to 3 paths with widths 1 to 2 and guards none, 0 and 1: every order, the
 //! wrong ones too, every small plan, every short list, through all calls.
 
-use crate::compare::{self, Case, Tally};
+use crate::brute;
+use crate::compare::{self, Call, Case, Tally};
 use crate::gen::{self, Rng};
-use crate::groups::clashes;
+use crate::groups::{chains, clashes};
 use crate::net::*;
 
 /// One piece for each network: 2 of one path, 12 of two, 216 of three.
@@ -53,6 +54,7 @@ fn tables(n: usize) -> Case {
         starts: vec![55; PATHS],
         order: vec![200; PATHS],
         second: vec![3; PATHS],
+        chain: vec![201; PATHS],
         labels,
         text: vec![b'?'; 120],
         ..Case::default()
@@ -75,13 +77,19 @@ fn digits(base: usize, count: usize) -> Vec<Vec<usize>> {
     all
 }
 
-/// Judging, pressing and writing every plan with starts 0 to 8, then reading it back.
+/// The highest start of the plans.
+const TOP: usize = 8;
+
+/// Judging, pressing and writing every plan with starts 0 to 8, then reading it back; and asking
+/// about every path of it.
 fn plans(t: &mut Tally, c: &Case) {
     let net = c.network();
-    for plan in digits(9, c.n) {
+    let leasts = if t.chooses(Call::Why) { brute::leasts(&net, TOP) } else { Vec::new() };
+    for plan in digits(TOP + 1, c.n) {
         let mut c = c.clone();
         (0..c.n).for_each(|i| c.starts[i] = plan[i] as u16);
         clashes::by_slots(t, &c, &net);
+        chains::every_path(t, &c, &net, &leasts);
         if let Some((answer, text)) = compare::write(t, &c) {
             c.text = text[..answer.more[0]].to_vec();
             compare::read(t, &c);

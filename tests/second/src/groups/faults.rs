@@ -14,7 +14,8 @@ pub fn piece(t: &mut Tally, rng: &mut Rng, number: usize) {
         let n = if rng.percent(70) { rng.range(1, 9) } else { rng.range(1, PATHS) };
         let shape = rng.pick(&SHAPES);
         let mut c = gen::case(rng, n, shape);
-        // A clash is the last fault of judging and pressing: each other one has to win over it.
+        // A clash is the last fault of judging and pressing: each other one has to win over it, but
+        // for a path that there is not.
         if rng.percent(50) {
             c.starts = gen::any_plan(rng, &c);
         }
@@ -34,7 +35,7 @@ pub fn piece(t: &mut Tally, rng: &mut Rng, number: usize) {
     }
 }
 
-const KINDS: usize = 19;
+const KINDS: usize = 20;
 
 /// One fault. The places are below n as it was; n itself may be wrong by then.
 fn fault(rng: &mut Rng, c: &mut Case, kind: usize) {
@@ -60,6 +61,7 @@ fn fault(rng: &mut Rng, c: &mut Case, kind: usize) {
         16 => c.text.truncate(rng.pick(&[0, 10, 39])),
         17 => c.starts.iter_mut().take(n).for_each(|s| *s = 0),
         18 => past_n(rng, c, n),
+        19 => c.path = wrong_path(rng, n),
         _ => {}
     }
 }
@@ -91,10 +93,17 @@ fn wrong_n(rng: &mut Rng) -> usize {
     ])
 }
 
+/// A number that no path has: the next, one past a table or a byte, or one that is in range once it
+/// is cut.
+fn wrong_path(rng: &mut Rng, n: usize) -> usize {
+    let any = n + rng.below(200);
+    rng.pick(&[n, n + 1, any, PATHS, 255, 256, 65_536, 1 << 32, 1 << 63, usize::MAX])
+}
+
 /// Another length for one table: empty, one less, one more, n, double, or any.
 fn wrong_size(rng: &mut Rng, c: &mut Case) {
     let n = c.n.min(PATHS);
-    let which = rng.below(6);
+    let which = rng.below(7);
     let length = |rng: &mut Rng, fixed: usize| {
         let any = rng.below(2 * fixed);
         rng.pick(&[0, 1, n, fixed - 1, fixed + 1, 2 * fixed, any])
@@ -105,6 +114,7 @@ fn wrong_size(rng: &mut Rng, c: &mut Case) {
         2 => c.starts.resize(length(rng, PATHS), 1),
         3 => c.order.resize(length(rng, PATHS), 1),
         4 => c.second.resize(length(rng, PATHS), 1),
+        5 => c.chain.resize(length(rng, PATHS), 1),
         _ => c.labels.resize(length(rng, LABELS), 0),
     }
 }
@@ -153,11 +163,11 @@ fn past_n(rng: &mut Rng, c: &mut Case, n: usize) {
 }
 
 /// One piece for each table whose length is varied.
-pub const SIZE_PIECES: usize = 6;
+pub const SIZE_PIECES: usize = 7;
 
 /// Every call with one table of each wrong length, and each with a right and a wrong n.
 pub fn sizes_piece(t: &mut Tally, rng: &mut Rng, which: usize) {
-    let fixed = [PATHS, CELLS, PATHS, PATHS, PATHS, LABELS][which];
+    let fixed = [PATHS, CELLS, PATHS, PATHS, PATHS, LABELS, PATHS][which];
     let near: Vec<usize> = vec![0, 1, 2, 3, fixed / 2, fixed - 1, fixed, fixed + 1, 2 * fixed];
     for length in near {
         for n in [1, 2, 3, 64, 127, 128, 0, 129, usize::MAX] {
@@ -171,7 +181,8 @@ pub fn sizes_piece(t: &mut Tally, rng: &mut Rng, which: usize) {
                 2 => c.starts.resize(length, 1),
                 3 => c.order.resize(length, 1),
                 4 => c.second.resize(length, 1),
-                _ => c.labels.resize(length, 0),
+                5 => c.labels.resize(length, 0),
+                _ => c.chain.resize(length, 1),
             }
             t.cases += 1;
             compare::all_calls(t, &c);

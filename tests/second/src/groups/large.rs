@@ -3,6 +3,7 @@
 
 use crate::compare::{self, Call, Case, Tally};
 use crate::gen::{self, Rng, Shape, SHAPES};
+use crate::groups::chains;
 use crate::net::*;
 
 pub const PIECES: usize = 600;
@@ -33,10 +34,13 @@ fn rounds(rng: &mut Rng, number: usize, k: usize) -> usize {
 
 fn calls(t: &mut Tally, rng: &mut Rng, c: &Case) {
     compare::all_calls(t, c);
-    for _ in 0..3 {
+    for k in 0..3 {
         let planned = Case { starts: gen::any_plan(rng, c), ..c.clone() };
         compare::judge(t, &planned);
         compare::press(t, &planned);
+        if k == 0 {
+            compare::why(t, &planned);
+        }
     }
     for _ in 0..2 {
         compare::floor(t, &Case { list: gen::list(rng, c), ..c.clone() });
@@ -48,6 +52,26 @@ fn calls(t: &mut Tally, rng: &mut Rng, c: &Case) {
     let far = Case { starts: far_plan(rng, c), ..c.clone() };
     compare::judge(t, &far);
     compare::press(t, &far);
+    reasons(t, &mut rng.aside(), c, &far);
+}
+
+/// A path of the packed and of the pressed plan; of the loose and of the far one the path that
+/// starts highest, where the longest chains begin; and a path that the far one has not.
+fn reasons(t: &mut Tally, rng: &mut Rng, c: &Case, far: &Case) {
+    if !t.chooses(Call::Why) {
+        return;
+    }
+    let net = c.network();
+    chains::made_plans(t, rng, c, &net);
+    for mut c in [c, far].map(chains::without_sheet) {
+        c.path = highest_path(&c);
+        chains::told(t, &c, &net);
+    }
+    compare::why(t, &Case { path: c.n, ..chains::without_sheet(far) });
+}
+
+fn highest_path(c: &Case) -> usize {
+    (0..c.n).max_by_key(|&p| c.starts[p]).unwrap_or(0)
 }
 
 /// What planning and improving leave is accepted by the judge, and pressing it cannot raise it.
@@ -57,6 +81,9 @@ fn made_plans(t: &mut Tally, c: &Case) {
         let made_case = Case { starts: made.starts.clone(), order: made.order, ..c.clone() };
         if let Some(judged) = compare::judge(t, &made_case) {
             t.check("a made plan is valid", &made_case, judged.answer.number == 0);
+        }
+        if t.chooses(Call::Why) {
+            chains::to_slot_1(t, &made_case, &made_case.network());
         }
         if let Some(pressed) = compare::press(t, &made_case) {
             let lower = pressed.answer.more[0] <= made.answer.more[0];

@@ -1,6 +1,8 @@
 //! The groups of comparisons. Each is cut into pieces; a piece is made from its number alone,
 //! so that the same seed compares the same cases on any number of threads.
 
+pub mod ask;
+pub mod chains;
 pub mod clashes;
 pub mod exhaustive;
 pub mod faults;
@@ -23,7 +25,7 @@ pub struct Group {
     pub piece: fn(&mut Tally, &mut Rng, usize),
 }
 
-pub const GROUPS: [Group; 9] = [
+pub const GROUPS: [Group; 11] = [
     Group {
         name: "exhaustive",
         counts: "networks",
@@ -87,4 +89,12 @@ pub const GROUPS: [Group; 9] = [
         random: false,
         piece: clashes::piece,
     },
+    Group {
+        name: "chains",
+        counts: "cases",
+        pieces: chains::PIECES,
+        random: true,
+        piece: chains::piece,
+    },
+    Group { name: "ask", counts: "runs", pieces: ask::PIECES, random: true, piece: ask::piece },
 ];

@@ -7,7 +7,9 @@ use crate::gen::{self, Rng, SHAPES};
 use crate::groups::sheets;
 use crate::net::*;
 use crate::sheet;
+use std::ffi::OsStr;
 use std::io::{Read, Write};
+use std::os::unix::ffi::OsStrExt;
 use std::process::{Command, Stdio};
 use std::thread;
 use std::time::Duration;
@@ -75,15 +77,24 @@ fn special(rng: &mut Rng) -> Vec<Vec<u8>> {
 fn one(t: &mut Tally, program: &str, text: Vec<u8>, step: usize) {
     t.cases += 1;
     let want = sheet::program(&text);
-    let got = run(program, &text, step);
-    let how = if step == usize::MAX { "at once".into() } else { format!("{step} bytes at a time") };
-    t.program(&how, &Case { text, ..Case::default() }, &got, &want);
+    let got = run(program, &[], &text, step);
+    t.program(Call::Program, &pace(step), &Case { text, ..Case::default() }, &got, &want);
 }
 
-/// What the program prints, its input delivered in steps. RULES 19 names no exit status; an
+/// How fast the input came, in words.
+pub fn pace(step: usize) -> String {
+    match step {
+        usize::MAX => "at once".into(),
+        _ => format!("{step} bytes at a time"),
+    }
+}
+
+/// What a program prints, its input delivered in steps. RULES 19 names no exit status; an
 /// end by a signal is shown as such.
-fn run(program: &str, text: &[u8], step: usize) -> Vec<u8> {
-    let started = Command::new(program).stdin(Stdio::piped()).stdout(Stdio::piped()).spawn();
+pub fn run(program: &str, args: &[Vec<u8>], text: &[u8], step: usize) -> Vec<u8> {
+    let args = args.iter().map(|arg| OsStr::from_bytes(arg));
+    let mut command = Command::new(program);
+    let started = command.args(args).stdin(Stdio::piped()).stdout(Stdio::piped()).spawn();
     let mut child = match started {
         Ok(child) => child,
         Err(e) => return format!("(not started: {e})").into_bytes(),

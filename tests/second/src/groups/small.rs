@@ -2,9 +2,9 @@
 //! against brute force: slot sets, all orders, all plans, all sides.
 
 use crate::brute;
-use crate::compare::{self, Case, Outcome, Tally};
+use crate::compare::{self, Call, Case, Outcome, Tally};
 use crate::gen::{self, Rng, Shape, SHAPES};
-use crate::groups::clashes;
+use crate::groups::{chains, clashes};
 use crate::net::*;
 use crate::rules;
 
@@ -28,6 +28,7 @@ pub fn piece(t: &mut Tally, rng: &mut Rng, _: usize) {
         improving(t, &c, &net);
         floors(t, rng, &c, best);
         sheets(t, &c);
+        reasons(t, &mut rng.aside(), &c, &net);
     }
 }
 
@@ -177,6 +178,24 @@ fn floors(t: &mut Tally, rng: &mut Rng, c: &Case, best: usize) {
             t.check("no floor is above the best", &c, got.answer.more[0] <= best);
         }
         compare::floor(t, &Case { list: gen::any_list(rng, &c), ..c });
+    }
+}
+
+/// Of half the networks: a path of the packed and of the pressed plan, or one of the planned one
+/// and each of the loose one.
+fn reasons(t: &mut Tally, rng: &mut Rng, c: &Case, net: &Network) {
+    if !t.chooses(Call::Why) {
+        return;
+    }
+    match rng.below(6) {
+        0..=1 => chains::made_plans(t, rng, c, net),
+        2 => {
+            let mut planned = chains::without_sheet(c);
+            chains::set_plan(&mut planned, &rules::plan(net, c.seed, c.rounds.min(13)).starts);
+            chains::to_slot_1(t, &planned, net);
+            chains::each_path(t, c, net);
+        }
+        _ => {}
     }
 }
 
