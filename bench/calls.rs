@@ -29,10 +29,11 @@ struct Case {
 /// A call on a network and a valid plan of it.
 type Work = fn(&Network, &Starts);
 
-const ON_ANY: [(&str, Work); 7] = [
+const ON_ANY: [(&str, Work); 8] = [
     ("judge", |net, plan| done(library::judge(net, plan))),
     ("pack", |net, _| done(library::pack(net, &net.orders[0], &mut [0; PATHS]))),
     ("press", |net, plan| done(library::press(net, &mut { *plan }))),
+    ("why", |net, plan| done(library::why(net, plan, net.n - 1, &mut [0; PATHS]))),
     ("better", |net, _| done(library::better(net, &net.orders[0], &net.orders[1]))),
     ("improve, 1,000 rounds", |net, _| done(library::improve(net, &net.orders[0], 1000))),
     ("plan, 1,000 rounds", |net, _| done(library::plan(net, 1000))),

@@ -3,7 +3,7 @@
 use nesbrunka::{DONE, PATHS};
 
 use crate::networks::Network;
-use crate::rules::{Improved, Judgement, Order, Starts};
+use crate::rules::{Chained, Improved, Judgement, Order, Starts};
 use crate::sheet::Tables;
 
 pub fn judge(net: &Network, starts: &Starts) -> Judgement {
@@ -21,6 +21,12 @@ pub fn press(net: &Network, starts: &mut Starts) -> usize {
     let r = nesbrunka::press(net.n, &net.widths, &net.guards, starts);
     assert!(r.number == DONE, "press: refused {} at {}", r.number, r.place);
     r.highest
+}
+
+pub fn why(net: &Network, starts: &Starts, path: usize, chain: &mut Order) -> Chained {
+    let r = nesbrunka::why(net.n, &net.widths, &net.guards, starts, path, chain);
+    assert!(r.number == DONE, "why: refused {} at {}", r.number, r.place);
+    (r.length, r.down)
 }
 
 pub fn better<'a>(net: &Network, first: &'a Order, second: &'a Order) -> &'a [u8] {

@@ -32,22 +32,26 @@ fn engine(net: &Network, order: &Order, starts: &mut Starts) -> usize {
 }
 
 /// What is measured of a call at one size and share of pairs, in the order of the rows.
-const ROWS: [&str; 6] = [
+const ROWS: [&str; 8] = [
     "judge, a valid plan / plain scans of the same tests",
     "pack / looking back, no tests",
     "pack without its tests / the same loop in Rust",
     "press / a sort and looking back, no tests",
+    "why, the longest chain / plain scans, with the same tests",
+    "why, the longest chain / the library's judge of the same plan",
     "improve, 10,000 rounds / looking back, no tests",
     "improve, 10,000 rounds / the same loop in Rust, no tests",
 ];
 
-fn measured(n: usize, percent: usize, random: &mut Random) -> [f64; 6] {
+fn measured(n: usize, percent: usize, random: &mut Random) -> [f64; 8] {
     let net = Network::new(n, pairs(n, percent), random);
     // Each work takes so long that a clock can tell: 64 plans or orders, so often.
     let times = 1 + 4096 / (n * n);
     let [pack, alone] = packing(&net, times);
     let [looking_back, same_loop] = improving(&net);
-    [judging(&net, times), pack, alone, pressing(&net, times), looking_back, same_loop]
+    let (judge, press) = (judging(&net, times), pressing(&net, times));
+    let [plain_why, judged] = explaining(&net, times);
+    [judge, pack, alone, press, plain_why, judged, looking_back, same_loop]
 }
 
 /// A valid plan for each order: its packing.
@@ -107,6 +111,34 @@ fn pressing(net: &Network, times: usize) -> f64 {
         }
     };
     ratios(101, [&mut || all(library::press), &mut || all(rules::press)])[1]
+}
+
+/// Of each plan the path of the longest chain.
+fn explaining(net: &Network, times: usize) -> [f64; 2] {
+    let longest = |plan: Starts| {
+        let length = |&path: &usize| rules::why(net, &plan, path, &mut [0; PATHS]).0;
+        (plan, (0..net.n).max_by_key(length).expect("a path"))
+    };
+    let asked: Vec<(Starts, usize)> = plans(net).into_iter().map(longest).collect();
+    for (plan, path) in &asked {
+        let (mut one, mut two) = ([0; PATHS], [0; PATHS]);
+        let found = library::why(net, plan, *path, &mut one);
+        assert!(found == rules::why(net, plan, *path, &mut two) && one == two, "the chains differ");
+    }
+    let each = || (0..times).flat_map(|_| &asked);
+    let all = |why: fn(&Network, &Starts, usize, &mut Order) -> rules::Chained| {
+        let mut chain = [0; PATHS];
+        for (plan, path) in each() {
+            black_box(why(black_box(net), black_box(plan), *path, black_box(&mut chain)));
+        }
+    };
+    let plain = ratios(101, [&mut || all(library::why), &mut || all(rules::why)])[1];
+    let judge = || {
+        for (plan, _) in each() {
+            black_box(library::judge(black_box(net), black_box(plan)));
+        }
+    };
+    [plain, ratios(101, [&mut || all(library::why), &mut || judge()])[1]]
 }
 
 fn improving(net: &Network) -> [f64; 2] {
@@ -187,7 +219,7 @@ fn main() {
     println!("| call, with its tests / plain Rust | n = 7 | n = 40 | n = 128 |\n|---|---|---|---|");
     let found = SIZES.map(|n| PERCENTS.map(|percent| measured(n, percent, random)));
     for (row, title) in ROWS.iter().enumerate() {
-        let cell = |at: &[[f64; 6]; 3]| at.map(|m| format!("{:.2}", m[row])).join(", ");
+        let cell = |at: &[[f64; 8]; 3]| at.map(|m| format!("{:.2}", m[row])).join(", ");
         println!("| {title} | {} |", found.each_ref().map(cell).join(" | "));
     }
     let count = |part: usize| SIZES.map(|n| (dense(n) / part).to_string()).join(", ");
@@ -205,8 +237,10 @@ fn main() {
     let half = found[2][1];
     goal("pack, 128 paths, 50 %", 0.25, half[1]);
     goal("pack without its tests, 128 paths, 50 %", 1.2, half[2]);
-    goal("improve by looking back, 128 paths, 50 %", 0.1, half[4]);
-    goal("improve by the same loop, 128 paths, 50 %", 1.2, half[5]);
+    let worst = found.iter().flatten().map(|m| m[5]).fold(0.0, f64::max);
+    goal("why by judging the same plan, the worst of all", 1.3, worst);
+    goal("improve by looking back, 128 paths, 50 %", 0.1, half[6]);
+    goal("improve by the same loop, 128 paths, 50 %", 1.2, half[7]);
     goal("the plan program, dense sheet of 128 paths", 0.25, dense_found[2]);
     goal("reading and writing the longest sheet", 1.5, reading.max(writing));
     goal("planning a line of 128 paths / 1,000 rounds at 50 %", 0.05, planning(random));

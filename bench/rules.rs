@@ -107,6 +107,32 @@ pub fn press(net: &Network, starts: &mut Starts) -> usize {
     look_back(net, &order, starts)
 }
 
+/// How many paths a chain has, and how many slots the last of them can come down.
+pub type Chained = (usize, usize);
+
+/// Why a path stands where it stands, by plain scans: judged, and then for each path of the chain
+/// the first one that holds it up.
+pub fn why(net: &Network, starts: &Starts, path: usize, chain: &mut Order) -> Chained {
+    assert!(judge(net, starts) == (0, 0, 0), "why: the plan is not valid");
+    let past = |j: usize, k: usize| {
+        let guard = net.guards[PATHS * k + j];
+        let below = guard != NO_CONFLICT && starts[j] < starts[k];
+        below.then(|| starts[j] + net.widths[j] + guard as u16)
+    };
+    let (mut k, mut length) = (path, 0);
+    loop {
+        chain[length] = k as u8;
+        length += 1;
+        let link = (0..net.n).find(|&j| past(j, k) == Some(starts[k]));
+        match link {
+            Some(j) if starts[k] > 1 => k = j,
+            _ => break,
+        }
+    }
+    let bottom = (0..net.n).filter_map(|j| past(j, k)).fold(1, u16::max);
+    (length, (starts[k] - bottom) as usize)
+}
+
 /// What improving leaves: order, starts, highest slot, swaps kept.
 pub type Improved = (Order, Starts, usize, usize);
 

@@ -1,6 +1,6 @@
--- The paths filed by the slot after their end, 32 slots to a file: a path that holds another up is in one of
--- two files, since a guard is at most 32. Assumes nothing.
-use Prim.Native.Nat.{ℕ, suc, _+_, _-_, _/_, _≤_, _<_}
+-- The paths filed by the slot after their end, 32 slots to a file, and every 128th file in one: a path that holds
+-- another up is in one of two files, since a guard is at most 32. Assumes nothing.
+use Prim.Native.Nat.{ℕ, suc, _+_, _-_, _/_, _%_, _≤_, _<_}
 use mathlib.Core.Path.{_≡_, refl, sym, ap, subst, _∙_}
 use mathlib.Core.Logic.{_≢_, _⊎_, inl, inr}
 use mathlib.Core.Bool.{Bool, true, false, _&&_, true≢false}
@@ -21,7 +21,7 @@ use Rattle.plan_laws.specs.Reason.{holds-parts, parts-holds}
 
 -- the file of path j
 abbrev pub fileOf : List ℕ → List ℕ → ℕ → ℕ
-fileOf widths starts j = (at starts j + at widths j) / 32
+fileOf widths starts j = (at starts j + at widths j) / 32 % 128
 
 -- r is the first path from x on that is in file b; any number of n or more where there is none
 pub record Next (file : ℕ → ℕ) (n b x r : ℕ) : Type 0 where
@@ -31,25 +31,25 @@ pub record Next (file : ℕ → ℕ) (n b x r : ℕ) : Type 0 where
 
 -- the paths from i on are filed: the first of each file, and after each path the next of its file
 pub record Filed (file : ℕ → ℕ) (n i : ℕ) (heads nexts : List ℕ) : Type 0 where
-  pub headsSize : length heads ≡ 515
+  pub headsSize : length heads ≡ 128
   pub nextsSize : length nexts ≡ 128
-  pub begins : (b : ℕ) → b < 515 → Next file n b i (at heads b)
+  pub begins : (b : ℕ) → b < 128 → Next file n b i (at heads b)
   pub follows : (j : ℕ) → i ≤ j → j < n → Next file n (file j) (j + 1) (at nexts j)
 
-pub filed-none : (file : ℕ → ℕ) (n : ℕ) (heads nexts : List ℕ) → n ≤ 128 → heads ≡ cleared 515 128 → length nexts ≡ 128 → Filed file n n heads nexts
+pub filed-none : (file : ℕ → ℕ) (n : ℕ) (heads nexts : List ℕ) → n ≤ 128 → heads ≡ cleared 128 128 → length nexts ≡ 128 → Filed file n n heads nexts
 filed-none file n heads nexts few e l = record {
-  headsSize = ap length e ∙ cleared-length 515 128;
+  headsSize = ap length e ∙ cleared-length 128 128;
   nextsSize = l;
   begins = λ b g. record {
-    up = omega (arith, ap (λ t. at t b) e, cleared-at 515 128 b g);
+    up = omega (arith, ap (λ t. at t b) e, cleared-at 128 128 b g);
     skip = λ i h g m. absurd (omega arith);
-    hit = λ h. absurd (omega (arith, ap (λ t. at t b) e, cleared-at 515 128 b g));
+    hit = λ h. absurd (omega (arith, ap (λ t. at t b) e, cleared-at 128 128 b g));
   };
   follows = λ j h g. absurd (omega arith);
 }
 
 -- one path more
-one-more : (file : ℕ → ℕ) (n j v : ℕ) (heads nexts : List ℕ) → n ≤ 128 → j < n → file j < 515 → v ≡ at heads (file j) → Filed file n (j + 1) heads nexts
+one-more : (file : ℕ → ℕ) (n j v : ℕ) (heads nexts : List ℕ) → n ≤ 128 → j < n → file j < 128 → v ≡ at heads (file j) → Filed file n (j + 1) heads nexts
     → Filed file n j (set heads (file j) j) (set nexts j v)
 one-more file n j v heads nexts few l inside e f = record {
   headsSize = length-set heads (file j) j ∙ f .headsSize;
@@ -58,7 +58,7 @@ one-more file n j v heads nexts few l inside e f = record {
   follows = λ i h g. follows i h g (ℕ-discrete i j);
 }
   where
-    begins : (b : ℕ) → b < 515 → Dec (b ≡ file j) → Next file n b j (at (set heads (file j) j) b)
+    begins : (b : ℕ) → b < 128 → Dec (b ≡ file j) → Next file n b j (at (set heads (file j) j) b)
     begins b g (yes q) =
         let x : at (set heads (file j) j) b ≡ j = ap (at (set heads (file j) j)) q ∙ at-same heads (file j) j (omega (arith, f .headsSize)) in
         rw x (record { up = omega arith; skip = λ i h m k. absurd (omega arith); hit = λ h. sym q })
@@ -75,11 +75,11 @@ one-more file n j v heads nexts few l inside e f = record {
     follows : (i : ℕ) → j ≤ i → i < n → Dec (i ≡ j) → Next file n (file i) (i + 1) (at (set nexts j v) i)
     follows i h g (yes q) =
         let x : at (set nexts j v) i ≡ at heads (file i) = ap (at (set nexts j v)) q ∙ at-same nexts j v (omega (arith, f .nextsSize)) ∙ e ∙ ap (λ z. at heads (file z)) (sym q) in
-        let b = f .begins (file i) (subst (λ z. file z < 515) (sym q) inside) in
+        let b = f .begins (file i) (subst (λ z. file z < 128) (sym q) inside) in
         rw x (record { up = omega (arith, b .up); skip = λ y s m k. b .skip y (omega arith) m k; hit = b .hit })
     follows i h g (no q) = rw (at-other nexts j v i q) (f .follows i (omega arith) g)
 
-pub filed-more : (file : ℕ → ℕ) (n i b : ℕ) (heads nexts : List ℕ) → n ≤ 128 → 0 < i → i ≤ n → b ≡ file (i - 1) → b < 515 → Filed file n i heads nexts
+pub filed-more : (file : ℕ → ℕ) (n i b : ℕ) (heads nexts : List ℕ) → n ≤ 128 → 0 < i → i ≤ n → b ≡ file (i - 1) → b < 128 → Filed file n i heads nexts
     → Filed file n (i - 1) (set heads b (i - 1)) (set nexts (i - 1) (at heads b))
 filed-more file n i b heads nexts few some l e inside f =
     let back : i ≡ i - 1 + 1 = omega arith in
@@ -149,11 +149,19 @@ module _ (n : ℕ) (lent : Lent) (starts : List ℕ) (k : ℕ) (w : Network n le
   abbrev holds : ℕ → Bool
   holds = holdsUp net (at starts) k
 
-  held-file : (j : ℕ) → HoldsUp net (at starts) n k j → (file j ≡ at starts k / 32) ⊎ ((1 ≤ at starts k / 32) × (file j ≡ at starts k / 32 - 1))
+  -- path j is in the file of k's start, or in the one before
+  abbrev Near : ℕ → Type 0
+  Near j = (file j ≡ at starts k / 32 % 128) ⊎ ((1 ≤ at starts k / 32) × (file j ≡ (at starts k / 32 - 1) % 128))
+
+  held-file : (j : ℕ) → HoldsUp net (at starts) n k j → Near j
   held-file j h =
-      files-two (at starts k) (at starts j + at (lent .widths) j) (at (lent .guards) (cell j k)) (omega (arith, h .meets, w .width j (h .path) .0))
-      (small (w .guard j k (h .path) l) (h .conflict))
+      near (files-two (at starts k) (at starts j + at (lent .widths) j) (at (lent .guards) (cell j k)) (omega (arith, h .meets, w .width j (h .path) .0))
+      (small (w .guard j k (h .path) l) (h .conflict)))
     where
+      near : ((at starts j + at (lent .widths) j) / 32 ≡ at starts k / 32) ⊎ ((1 ≤ at starts k / 32) × ((at starts j + at (lent .widths) j) / 32 ≡ at starts k / 32 - 1)) → Near j
+      near (inl q) = inl (ap (λ (b : ℕ). b % 128) q)
+      near (inr q) = inr (q .0, ap (λ (b : ℕ). b % 128) (q .1))
+
       small : (at (lent .guards) (cell j k) ≤ 32) ⊎ (at (lent .guards) (cell j k) ≡ 255) → at (lent .guards) (cell j k) < 255 → at (lent .guards) (cell j k) ≤ 32
       small (inl x) c = x
       small (inr x) c = absurd (omega arith)
@@ -167,25 +175,25 @@ module _ (n : ℕ) (lent : Lent) (starts : List ℕ) (k : ℕ) (w : Network n le
       go (yes x) = sym (first-at holds n r before (at-r x) x)
       go (no x) = let q : r ≡ n = omega arith in q ∙ sym (first-none holds n (λ i g. before i (omega arith)))
 
-  pub link-low : (r : ℕ) → at starts k / 32 ≡ 0 → Searched holds file (at starts k / 32) n r → r ≡ link net (at starts) n k
+  pub link-low : (r : ℕ) → at starts k / 32 ≡ 0 → Searched holds file (at starts k / 32 % 128) n r → r ≡ link net (at starts) n k
   link-low r z f = found-link r (f .within) (λ i g. not-held i g (holds i) refl) (f .found)
     where
       not-held : (i : ℕ) → i < r → (b : Bool) → holds i ≡ b → holds i ≡ false
       not-held i g false e = e
       not-held i g true e = go (held-file i (holds-parts net (at starts) k i n (omega (arith, f .within)) e))
         where
-          go : (file i ≡ at starts k / 32) ⊎ ((1 ≤ at starts k / 32) × (file i ≡ at starts k / 32 - 1)) → holds i ≡ false
+          go : Near i → holds i ≡ false
           go (inl q) = f .before i g q
           go (inr q) = absurd (omega (arith, q .0))
 
-  pub link-high : (a r : ℕ) → Searched holds file (at starts k / 32) n a → Searched holds file (at starts k / 32 - 1) a r → r ≡ link net (at starts) n k
+  pub link-high : (a r : ℕ) → Searched holds file (at starts k / 32 % 128) n a → Searched holds file ((at starts k / 32 - 1) % 128) a r → r ≡ link net (at starts) n k
   link-high a r f g = found-link r (omega (arith, f .within, g .within)) (λ i h. not-held i h (holds i) refl) (λ h. at-r h (decLt r a))
     where
       not-held : (i : ℕ) → i < r → (b : Bool) → holds i ≡ b → holds i ≡ false
       not-held i h false e = e
       not-held i h true e = go (held-file i (holds-parts net (at starts) k i n (omega (arith, f .within, g .within)) e))
         where
-          go : (file i ≡ at starts k / 32) ⊎ ((1 ≤ at starts k / 32) × (file i ≡ at starts k / 32 - 1)) → holds i ≡ false
+          go : Near i → holds i ≡ false
           go (inl q) = f .before i (omega (arith, g .within)) q
           go (inr q) = g .before i h (q .1)
 

@@ -12,24 +12,22 @@ ghost use Rattle.rules.specs.Plan.{netOf};
 ghost use Rattle.rules.specs.Reason.{holdsUp, link};
 ghost use Rattle.links.specs.Files.{fileOf, Next, Filed, Searched};
 
-// 32 slots to a file, as many as a guard can have. The highest end is 16,384 + 64 - 1.
-pub const FILES: usize = 515;
-
-const NONE: u8 = 128;
+// 32 slots to a file, as many as a guard can have, and every 128th file in one, so that there are few to clear.
+pub const FILES: usize = 128;
 
 // The file of path j.
 fn file_of(j: usize, widths: &[u16], starts: &[u16]) -> usize
     requires { ⌜ (j < length (now widths)) × ((j < length (now starts))
         × ((at (now widths) j ≤ 64) × (at (now starts) j ≤ 16384))) ⌝ }
-    ensures { λ r. ⌜ (r ≡ fileOf (now (widths .entry)) (now (starts .entry)) j) × (r < 515) ⌝ }
+    ensures { λ r. ⌜ (r ≡ fileOf (now (widths .entry)) (now (starts .entry)) j) × (r < 128) ⌝ }
 {
-    (starts[j] + widths[j]) as usize / 32
+    (starts[j] + widths[j]) as usize / 32 % FILES
 }
 
 // Files the n paths, from the last to the first: heads[b] is the first path of file b, nexts[j] the path after
 // j in j's file.
 pub fn file_paths(n: usize, widths: &[u16], starts: &[u16], heads: &mut [u8], nexts: &mut [u8])
-    requires { ⌜ (n ≤ 128) × ((now heads ≡ cleared 515 128) × ((length (now nexts) ≡ 128)
+    requires { ⌜ (n ≤ 128) × ((now heads ≡ cleared 128 128) × ((length (now nexts) ≡ 128)
         × ((length (now widths) ≡ 128) × (((k : ℕ) → k < n → at (now widths) k ≤ 64) × Starts n (now starts))))) ⌝ }
     ensures { λ _. ⌜ Filed (fileOf (now (widths .entry)) (now (starts .entry))) n 0 (now (heads .exit))
         (now (nexts .exit)) ⌝ }
@@ -110,18 +108,10 @@ pub fn link_of(
         (at (now (starts .entry))) n k ⌝ }
 {
     let b = starts[k] as usize / 32;
-    let a = search(n, n, k, heads[b] as usize, nexts, widths, guards, starts);
+    let a = search(n, n, k, heads[b % FILES] as usize, nexts, widths, guards, starts);
     if b == 0 {
         return a;
     }
-    search(
-        n,
-        a,
-        k,
-        heads[b - 1] as usize,
-        nexts,
-        widths,
-        guards,
-        starts,
-    )
+    let c = heads[(b - 1) % FILES] as usize;
+    search(n, a, k, c, nexts, widths, guards, starts)
 }

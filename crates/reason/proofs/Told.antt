@@ -36,9 +36,9 @@ module _ (n : ℕ) (lent : Lent) (starts : List ℕ) (path : ℕ) (table : List 
   last-path =
       omega (arith, last-is, chain-inside net (at starts) n path c (e .inside) (chain-is net (at starts) n path (e .inside)) (length c - 1) (omega (arith, q, some-paths)))
 
-  pub told : (d : ℕ) → d ≡ at starts (at after (m - 1)) - bottom net (at starts) n (at after (m - 1))
+  pub told : (d : ℕ) → d ≡ down net (at starts) n (at after (m - 1))
       → left (record { number = 0; place = 0; short = 0; length = m; down = d }) after ≡ doneWhy net (at starts) n path table
-  unfolding doneWhy down
+  unfolding doneWhy
   told d h = rw (h, last-is, q, t)
 
 -- what is refused, and what is done
@@ -50,3 +50,13 @@ module _ (n : ℕ) (lent : Lent) (starts : List ℕ) (path : ℕ) (table : List 
   pub why-done : f .number ≡ 0 → doneWhy (netOf lent) (at starts) n path table ≡ explaining n lent starts path table
   unfolding explaining
   why-done z = rw (← e) (sym (unless-done f (refusedWhy table) (doneWhy (netOf lent) (at starts) n path table) z))
+
+-- how far a path can come down: not at all in slot 1, and else to its bottom
+module _ (net : Net) (plan : ℕ → ℕ) (n k : ℕ) where
+  pub down-low : plan k ≡ net .low k → 0 ≡ down net plan n k
+  unfolding down bottom
+  down-low e = omega arith
+
+  pub down-told : (b d : ℕ) → b ≡ bottom net plan n k → d ≡ plan k - b → d ≡ down net plan n k
+  unfolding down
+  down-told b d e f = omega (arith, e, f)

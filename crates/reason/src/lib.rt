@@ -12,7 +12,7 @@ ghost use lib.Dec.{ltb, leb};
 ghost use Rattle.rules.specs.Tables.{at, lend};
 ghost use Rattle.rules.specs.Limits.{Network, Starts};
 ghost use Rattle.rules.specs.Plan.{netOf};
-ghost use Rattle.rules.specs.Reason.{isLast, link, chain, bottom};
+ghost use Rattle.rules.specs.Reason.{isLast, link, chain, bottom, down};
 ghost use Rattle.rules.specs.Numbers.{pathFault, whyFault};
 ghost use Rattle.rules.specs.Calls.{left, doneWhy, explaining};
 ghost use Rattle.plan_laws.specs.Answers.{Explainable};
@@ -107,6 +107,20 @@ fn bottom_of(n: usize, k: usize, widths: &[u16], guards: &[u8], starts: &[u16]) 
     low
 }
 
+// How many slots path k can come down; none in slot 1, whatever stands below.
+fn down_of(n: usize, k: usize, widths: &[u16], guards: &[u8], starts: &[u16]) -> u16
+    requires { ⌜ (k < n) × (Network n (lend (now widths) (now guards)) × Starts n (now starts)) ⌝ }
+    ensures { λ r. ⌜ r ≡ down (netOf (lend (now (widths .entry)) (now (guards .entry))))
+        (at (now (starts .entry))) n k ⌝ }
+{
+    let s = starts[k];
+    if s == 1 {
+        return 0;
+    }
+    let b = bottom_of(n, k, widths, guards, starts);
+    clashes::below(b, s)
+}
+
 // 6, of the path that is asked for: no path has that number.
 fn path_fault(n: usize, path: usize) -> Fault
     ensures { λ r. ⌜ r ≡ pathFault n path ⌝ }
@@ -165,8 +179,7 @@ fn explain(
     links::file_paths(n, widths, starts, &mut heads, &mut nexts);
     let m = write_chain(n, path, &heads, &nexts, widths, guards, starts, chain);
     let last = chain[m - 1] as usize;
-    let b = bottom_of(n, last, widths, guards, starts);
-    let d = clashes::below(b, starts[last]);
+    let d = down_of(n, last, widths, guards, starts);
     Why {
         number: 0,
         place: 0,

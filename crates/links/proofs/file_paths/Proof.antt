@@ -63,7 +63,7 @@ loop-again c =
 same-length : tie.Need-same-length Inv-loop μ-loop
 same-length c =
     let s = c .before .before .before .before .before .before in
-    omega (arith, c .before .loop .inv .1 .headsSize, ap length (s .pre .1 .0), cleared-length 515 128)
+    omega (arith, c .before .loop .inv .1 .headsSize, ap length (s .pre .1 .0), cleared-length 128 128)
 
 same-length-2 : tie.Need-same-length-2 Inv-loop μ-loop
 same-length-2 c =

@@ -1,18 +1,16 @@
 use Rattle.reason.proofs.Told.{some-paths, few-paths, last-path, told}
 use Rattle.table_laws.specs.Tables.{blank}
-use Rattle.rules.specs.Tables.{at, lend}
+use Rattle.rules.specs.Tables.{lend}
 use lib.ListN.{length-replicate}
 use native.Mathlib.Omega.{arith}
-use mathlib.Core.Path.{ap, _∙_}
 use Prim.Native.Nat.{ℕ, _-_, _≤_, _<_}
 use borrow.Author.Needs.{needs}
 use Rattle.reason.proofs.explain.Statement.{statement}
 use Rattle.reason.proofs.explain.Tie as tie
 use Rattle.reason.proofs.explain.Reads as reads
 use Rattle.reason.proofs.explain.Lts as lts
-use Rattle.clashes.proofs.below.Reads as below-reads
 use Rattle.links.proofs.file_paths.Reads as file-paths-reads
-use Rattle.reason.proofs.bottom_of.Reads as bottom-of-reads
+use Rattle.reason.proofs.down_of.Reads as down-of-reads
 use Rattle.reason.proofs.write_chain.Reads as write-chain-reads
 
 slice-aggregate-file-paths : tie.Need-slice-aggregate-file-paths
@@ -24,7 +22,7 @@ slice-aggregate-file-paths-2 c = search needs
 file-paths-requires : tie.Need-file-paths-requires
 file-paths-requires c κs =
     let s = c .before .before .before .before .before .before in
-    (s .pre .network .few, (blank 515 128, (length-replicate {A = ℕ} 128 0, (s .pre .network .widthsSize, (λ k l. s .pre .network .width k l .1, s .pre .legal)))))
+    (s .pre .network .few, (blank 128 128, (length-replicate {A = ℕ} 128 0, (s .pre .network .widthsSize, (λ k l. s .pre .network .width k l .1, s .pre .legal)))))
 
 slice-aggregate-write-chain : tie.Need-slice-aggregate-write-chain
 slice-aggregate-write-chain c = search needs
@@ -54,42 +52,25 @@ cast-last c =
     let w = c .before .before .before .write-chain in
     omega (arith, c .slice-known3 .given (w .result - 1))
 
-bottom-of-requires : tie.Need-bottom-of-requires
-bottom-of-requires c κs =
+down-of-requires : tie.Need-down-of-requires
+down-of-requires c κs =
     let s = c .before .before .before .before .before .before .before .before .before .before .before .before .before .before .before .before in
     let a = s .args in
     let w = c .before .before .before .write-chain in
     (last-path (a .n) (lend (a .widths .now) (a .guards .now)) (a .starts .now) (a .path) (a .chain .now) (s .pre) (w .result) (w .last .1 .1 .1 .1 .1 .1 .1 .0) (w .ensures .0) (w .ensures .1), (s .pre .network, s .pre .legal))
 
-mul-below : tie.Need-mul-below
-mul-below c =
-    let s = c .before .before .before .before .before .before .before .before .before .before .before .before .before .before .before .before .before in
-    let a = s .args in
-    let w = c .before .before .before .before .write-chain in
-    omega (arith, last-path (a .n) (lend (a .widths .now) (a .guards .now)) (a .starts .now) (a .path) (a .chain .now) (s .pre) (w .result) (w .last .1 .1 .1 .1 .1 .1 .1 .0) (w .ensures .0) (w .ensures .1), s .pre .network .few)
-
-shared-slice-read-below : tie.Need-shared-slice-read-below
-shared-slice-read-below c =
-    let s = c .before .before .before .before .before .before .before .before .before .before .before .before .before .before .before .before .before .before in
-    let a = s .args in
-    let w = c .before .before .before .before .before .write-chain in
-    omega (arith, last-path (a .n) (lend (a .widths .now) (a .guards .now)) (a .starts .now) (a .path) (a .chain .now) (s .pre) (w .result) (w .last .1 .1 .1 .1 .1 .1 .1 .0) (w .ensures .0) (w .ensures .1), s .pre .network .few, s .pre .legal .size)
-
-below-requires : tie.Need-below-requires
-below-requires c κs = search needs
-
-cast-t24 : tie.Need-cast-t24
-cast-t24 c = search needs
+cast-t23 : tie.Need-cast-t23
+cast-t23 c = search needs
 
 same-length : tie.Need-same-length
 same-length c = search needs
 
 returns : tie.Need-returns
 returns c =
-    let s = c .before .before .before .before .before .before .before .before .before .before .before .before .before .before .before .before .before .before .before in
+    let s = c .before .before .before .before .before .before .before .before .before .before .before .before .before .before .before .before .before in
     let a = s .args in
-    let w = c .before .before .before .before .before .before .write-chain in
-    told (a .n) (lend (a .widths .now) (a .guards .now)) (a .starts .now) (a .path) (a .chain .now) (s .pre) (w .result) (w .last .1 .1 .1 .1 .1 .1 .1 .0) (w .ensures .0) (w .ensures .1) (c .below .result) (c .below .ensures ∙ ap (λ (x : ℕ). at (a .starts .now) (at (w .last .1 .1 .1 .1 .1 .1 .1 .0) (w .result - 1)) - x) (c .before .before .bottom-of .ensures))
+    let w = c .before .before .before .before .write-chain in
+    told (a .n) (lend (a .widths .now) (a .guards .now)) (a .starts .now) (a .path) (a .chain .now) (s .pre) (w .result) (w .last .1 .1 .1 .1 .1 .1 .1 .0) (w .ensures .0) (w .ensures .1) (c .down-of .result) (c .down-of .ensures)
 
 pub explain-spec : {M : Type 1} → statement M
 explain-spec =
@@ -104,10 +85,7 @@ explain-spec =
     sub-last
     slice-read-last
     cast-last
-    bottom-of-requires
-    mul-below
-    shared-slice-read-below
-    below-requires
-    cast-t24
+    down-of-requires
+    cast-t23
     same-length
     returns)
