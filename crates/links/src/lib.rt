@@ -1,21 +1,20 @@
 // An inner crate: the link of a path (RULES 25). The paths are filed by the slot after their end, and a path
-// that holds another up is looked for in two files alone.
+// that holds another up is looked for in one file alone.
 ghost use mathlib.Core.Path.{_≡_};
-ghost use mathlib.Core.List.{List};
-ghost use Prim.Native.Nat.{ℕ, _+_, _/_, _≤_, _<_};
-ghost use mathlib.Core.Bool.{_&&_};
+ghost use mathlib.Core.Bool.{cond, _&&_};
+ghost use Prim.Native.Nat.{ℕ, _+_, _≤_, _<_};
 ghost use lib.ListN.{length};
 ghost use lib.Dec.{ltb, eqb};
 ghost use Rattle.rules.specs.Tables.{at, cleared, lend};
 ghost use Rattle.rules.specs.Limits.{Network, Starts};
 ghost use Rattle.rules.specs.Plan.{netOf};
 ghost use Rattle.rules.specs.Reason.{holdsUp, link};
-ghost use Rattle.links.specs.Files.{fileOf, Next, Filed, Searched};
+ghost use Rattle.links.specs.Files.{fileAt, fileOf, above, Next, Filed, Searched};
 
 // 32 slots to a file, as many as a guard can have, and every 128th file in one, so that there are few to clear.
 pub const FILES: usize = 128;
 
-// The file of path j.
+// The file of path j: that of the slot after its end.
 fn file_of(j: usize, widths: &[u16], starts: &[u16]) -> usize
     requires { ⌜ (j < length (now widths)) × ((j < length (now starts))
         × ((at (now widths) j ≤ 64) × (at (now starts) j ≤ 16384))) ⌝ }
@@ -24,20 +23,31 @@ fn file_of(j: usize, widths: &[u16], starts: &[u16]) -> usize
     (starts[j] + widths[j]) as usize / 32 % FILES
 }
 
-// Files the n paths, from the last to the first: heads[b] is the first path of file b, nexts[j] the path after
-// j in j's file.
-pub fn file_paths(n: usize, widths: &[u16], starts: &[u16], heads: &mut [u8], nexts: &mut [u8])
-    requires { ⌜ (n ≤ 128) × ((now heads ≡ cleared 128 128) × ((length (now nexts) ≡ 128)
-        × ((length (now widths) ≡ 128) × (((k : ℕ) → k < n → at (now widths) k ≤ 64) × Starts n (now starts))))) ⌝ }
+// Files the n paths, from the last to the first, each in its own file and in the one above: heads[b] is the
+// first path of file b, owns[j] the path after j in j's own file, ups[j] the one after j in the file above.
+pub fn file_paths(
+    n: usize,
+    widths: &[u16],
+    starts: &[u16],
+    heads: &mut [u8],
+    owns: &mut [u8],
+    ups: &mut [u8],
+)
+    requires { ⌜ (n ≤ 128) × ((now heads ≡ cleared 128 128) × ((length (now owns) ≡ 128)
+        × ((length (now ups) ≡ 128) × ((length (now widths) ≡ 128)
+        × (((k : ℕ) → k < n → at (now widths) k ≤ 64) × Starts n (now starts)))))) ⌝ }
     ensures { λ _. ⌜ Filed (fileOf (now (widths .entry)) (now (starts .entry))) n 0 (now (heads .exit))
-        (now (nexts .exit)) ⌝ }
+        (now (owns .exit)) (now (ups .exit)) ⌝ }
 {
     let mut j = n;
     while 0 < j {
         j -= 1;
-        let b = file_of(j, widths, starts);
-        nexts[j] = heads[b];
-        heads[b] = j as u8;
+        let f = file_of(j, widths, starts);
+        let a = (f + 1) % FILES;
+        owns[j] = heads[f];
+        heads[f] = j as u8;
+        ups[j] = heads[a];
+        heads[a] = j as u8;
     }
 }
 
@@ -63,55 +73,51 @@ fn holds_up(n: usize, k: usize, j: usize, widths: &[u16], guards: &[u8], starts:
     meets(g, starts[j], widths[j], starts[k])
 }
 
-// The first path of a file, from one of its paths on, that holds path k up and is below `most`; or that.
-fn search(
+// The path after j in file b, which is j's own or the one above.
+fn next_in(
     n: usize,
-    most: usize,
-    k: usize,
-    from: usize,
-    nexts: &[u8],
+    b: usize,
+    j: usize,
+    owns: &[u8],
+    ups: &[u8],
     widths: &[u16],
-    guards: &[u8],
     starts: &[u16],
 ) -> usize
-    requires { ⌜ (k < n) × ((most ≤ n) × ((length (now nexts) ≡ 128)
-        × (Network n (lend (now widths) (now guards)) × (Starts n (now starts)
-        × ((j : ℕ) → j < n → Next (fileOf (now widths) (now starts)) n (fileOf (now widths) (now starts) j)
-        (j + 1) (at (now nexts) j)))))) ⌝ }
-    ensures { λ r. ⌜ ((b : ℕ) → Next (fileOf (now (widths .entry)) (now (starts .entry))) n b 0 from
-        → Searched (holdsUp (netOf (lend (now (widths .entry)) (now (guards .entry)))) (at (now (starts .entry))) k)
-        (fileOf (now (widths .entry)) (now (starts .entry))) b most r) ⌝ }
+    requires { ⌜ (j < n) × ((n ≤ 128) × ((length (now owns) ≡ 128) × ((length (now ups) ≡ 128)
+        × ((length (now widths) ≡ 128) × ((at (now widths) j ≤ 64) × Starts n (now starts)))))) ⌝ }
+    ensures { λ r. ⌜ r ≡ cond (eqb (fileOf (now (widths .entry)) (now (starts .entry)) j) b)
+        (at (now (owns .entry)) j) (at (now (ups .entry)) j) ⌝ }
 {
-    let mut j = from;
-    while j < most {
-        if holds_up(n, k, j, widths, guards, starts) {
-            return j;
-        }
-        j = nexts[j] as usize;
+    let f = file_of(j, widths, starts);
+    if f == b {
+        return owns[j] as usize;
     }
-    most
+    ups[j] as usize
 }
 
-// The link of path k, or n: of the two files the lowest number that holds it up.
+// The link of path k, or n: in the file of its start the lowest number that holds it up.
 pub fn link_of(
     n: usize,
     k: usize,
     heads: &[u8],
-    nexts: &[u8],
+    owns: &[u8],
+    ups: &[u8],
     widths: &[u16],
     guards: &[u8],
     starts: &[u16],
 ) -> usize
     requires { ⌜ (k < n) × (Network n (lend (now widths) (now guards)) × (Starts n (now starts)
-        × Filed (fileOf (now widths) (now starts)) n 0 (now heads) (now nexts))) ⌝ }
+        × Filed (fileOf (now widths) (now starts)) n 0 (now heads) (now owns) (now ups))) ⌝ }
     ensures { λ r. ⌜ r ≡ link (netOf (lend (now (widths .entry)) (now (guards .entry))))
         (at (now (starts .entry))) n k ⌝ }
 {
-    let b = starts[k] as usize / 32;
-    let a = search(n, n, k, heads[b % FILES] as usize, nexts, widths, guards, starts);
-    if b == 0 {
-        return a;
+    let b = starts[k] as usize / 32 % FILES;
+    let mut j = heads[b] as usize;
+    while j < n {
+        if holds_up(n, k, j, widths, guards, starts) {
+            return j;
+        }
+        j = next_in(n, b, j, owns, ups, widths, starts);
     }
-    let c = heads[(b - 1) % FILES] as usize;
-    search(n, a, k, c, nexts, widths, guards, starts)
+    n
 }

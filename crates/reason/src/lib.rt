@@ -23,13 +23,14 @@ fn next_of(
     n: usize,
     k: usize,
     heads: &[u8],
-    nexts: &[u8],
+    owns: &[u8],
+    ups: &[u8],
     widths: &[u16],
     guards: &[u8],
     starts: &[u16],
 ) -> usize
     requires { ⌜ (k < n) × (Network n (lend (now widths) (now guards)) × (Starts n (now starts)
-        × Filed (fileOf (now widths) (now starts)) n 0 (now heads) (now nexts))) ⌝ }
+        × Filed (fileOf (now widths) (now starts)) n 0 (now heads) (now owns) (now ups))) ⌝ }
     ensures { λ r. ⌜ r ≡ cond
         (isLast (netOf (lend (now (widths .entry)) (now (guards .entry)))) (at (now (starts .entry))) n k) n
         (link (netOf (lend (now (widths .entry)) (now (guards .entry)))) (at (now (starts .entry))) n k) ⌝ }
@@ -37,7 +38,7 @@ fn next_of(
     if starts[k] == 1 {
         return n;
     }
-    links::link_of(n, k, heads, nexts, widths, guards, starts)
+    links::link_of(n, k, heads, owns, ups, widths, guards, starts)
 }
 
 // Writes the chain from a path on into its table; how many paths it has.
@@ -45,14 +46,15 @@ fn write_chain(
     n: usize,
     path: usize,
     heads: &[u8],
-    nexts: &[u8],
+    owns: &[u8],
+    ups: &[u8],
     widths: &[u16],
     guards: &[u8],
     starts: &[u16],
     table: &mut [u8],
 ) -> usize
     requires { ⌜ (path < n) × (Network n (lend (now widths) (now guards)) × (Starts n (now starts)
-        × (Filed (fileOf (now widths) (now starts)) n 0 (now heads) (now nexts) × (length (now table) ≡ 128)))) ⌝ }
+        × (Filed (fileOf (now widths) (now starts)) n 0 (now heads) (now owns) (now ups) × (length (now table) ≡ 128)))) ⌝ }
     ensures { λ r. ⌜ (r ≡ length
         (chain (netOf (lend (now (widths .entry)) (now (guards .entry)))) (at (now (starts .entry))) n path)) ⌝ }
     ensures { λ _. ⌜ now (table .exit)
@@ -66,7 +68,7 @@ fn write_chain(
     while m < n {
         table[m] = k as u8;
         m += 1;
-        let j = next_of(n, k, heads, nexts, widths, guards, starts);
+        let j = next_of(n, k, heads, owns, ups, widths, guards, starts);
         if n <= j {
             return m;
         }
@@ -175,9 +177,10 @@ fn explain(
         (now (chain .entry)) ⌝ }
 {
     let mut heads = [128u8; links::FILES];
-    let mut nexts = [0u8; rules::PATHS];
-    links::file_paths(n, widths, starts, &mut heads, &mut nexts);
-    let m = write_chain(n, path, &heads, &nexts, widths, guards, starts, chain);
+    let mut owns = [0u8; rules::PATHS];
+    let mut ups = [0u8; rules::PATHS];
+    links::file_paths(n, widths, starts, &mut heads, &mut owns, &mut ups);
+    let m = write_chain(n, path, &heads, &owns, &ups, widths, guards, starts, chain);
     let last = chain[m - 1] as usize;
     let d = down_of(n, last, widths, guards, starts);
     Why {

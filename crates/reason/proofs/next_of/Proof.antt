@@ -17,7 +17,7 @@ shared-slice-read-if1 c = search needs
 
 returns : tie.Need-returns
 returns c =
-    let a = c .before .before .before .before .before .before .before .args in
+    let a = c .before .before .before .before .before .before .before .before .args in
     next-low (netOf (lend (a .widths .now) (a .guards .now))) (at (a .starts .now)) (a .n) (a .k) (c .if1 .taken)
 
 link-of-requires : tie.Need-link-of-requires
@@ -25,7 +25,7 @@ link-of-requires c κs = search needs
 
 returns-2 : tie.Need-returns-2
 returns-2 c =
-    let a = c .before .before .before .before .before .before .before .before .args in
+    let a = c .before .before .before .before .before .before .before .before .before .args in
     c .link-of .ensures ∙ next-link (netOf (lend (a .widths .now) (a .guards .now))) (at (a .starts .now)) (a .n) (a .k) (c .before .if1 .left)
 
 pub next-of-spec : {M : Type 1} → statement M

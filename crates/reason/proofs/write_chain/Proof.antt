@@ -13,14 +13,14 @@ use Rattle.reason.proofs.write_chain.Lts as lts
 use Rattle.reason.proofs.next_of.Reads as next-of-reads
 
 abbrev Inv-loop : tie.InvT-loop
-Inv-loop n path heads nexts widths guards starts table₀ k₀ m₀ table k m = Writing (netOf (lend widths guards)) (at starts) n path table₀ m k table
+Inv-loop n path heads owns ups widths guards starts table₀ k₀ m₀ table k m = Writing (netOf (lend widths guards)) (at starts) n path table₀ m k table
 
 abbrev μ-loop : tie.MeasureT-loop
-μ-loop n path heads nexts widths guards starts table₀ k₀ m₀ table k m = n - m
+μ-loop n path heads owns ups widths guards starts table₀ k₀ m₀ table k m = n - m
 
 loop-holds : tie.Need-loop-holds Inv-loop μ-loop
 loop-holds c =
-    let s = c .before .before .before .before .before .before in
+    let s = c .before .before .before .before .before .before .before in
     let a = s .args in
     writing-first (netOf (lend (a .widths .now) (a .guards .now))) (at (a .starts .now)) (a .n) (a .path) (a .table .now) (s .pre .0)
 
@@ -29,7 +29,7 @@ cast-table c = search needs
 
 slice-write-table : tie.Need-slice-write-table Inv-loop μ-loop
 slice-write-table c =
-    let s = c .before .before .before .before .before .before .before .before in
+    let s = c .before .before .before .before .before .before .before .before .before in
     omega (arith, c .before .loop .inv .size, s .pre .1 .1 .1 .1, s .pre .1 .0 .few)
 
 add-m : tie.Need-add-m Inv-loop μ-loop
@@ -37,7 +37,7 @@ add-m c = search needs
 
 next-of-requires : tie.Need-next-of-requires Inv-loop μ-loop
 next-of-requires c κs =
-    let s = c .before .before .before .before .before .before .before .before in
+    let s = c .before .before .before .before .before .before .before .before .before in
     (c .before .loop .inv .inside, (s .pre .1 .0, (s .pre .1 .1 .0, s .pre .1 .1 .1 .0)))
 
 same-length : tie.Need-same-length Inv-loop μ-loop
@@ -48,7 +48,7 @@ same-length c =
 returns : tie.Need-returns Inv-loop μ-loop
 returns c =
     let h = c .before .before .before in
-    let s = c .before .before .before .before .before .before .before .before .before .before in
+    let s = c .before .before .before .before .before .before .before .before .before .before .before in
     let a = s .args in
     let w = writing-stop (netOf (lend (a .widths .now) (a .guards .now))) (at (a .starts .now)) (a .n) (a .path) (a .table .now) (h .loop .m) (h .loop .k) (h .loop .table) (h .loop .inv) (omega (arith, s .pre .1 .1 .1 .1, s .pre .1 .0 .few)) (omega arith) (next-ends (netOf (lend (a .widths .now) (a .guards .now))) (at (a .starts .now)) (a .n) (h .loop .k) (c .before .next-of .result) (c .before .next-of .ensures) (c .if1 .taken)) in
     (w .0, w .1)
@@ -59,7 +59,7 @@ loop-less c = search needs
 loop-again : tie.Need-loop-again Inv-loop μ-loop
 loop-again c =
     let h = c .before .before .before in
-    let s = c .before .before .before .before .before .before .before .before .before .before in
+    let s = c .before .before .before .before .before .before .before .before .before .before .before in
     let a = s .args in
     let g = next-goes (netOf (lend (a .widths .now) (a .guards .now))) (at (a .starts .now)) (a .n) (h .loop .k) (c .before .next-of .result) (c .before .next-of .ensures) (c .if1 .left) in
     subst (λ z. Writing (netOf (lend (a .widths .now) (a .guards .now))) (at (a .starts .now)) (a .n) (a .path) (a .table .now) (h .loop .m + 1) z (set (h .loop .table) (h .loop .m) (h .loop .k))) (sym (g .1)) (writing-more (netOf (lend (a .widths .now) (a .guards .now))) (at (a .starts .now)) (a .n) (a .path) (a .table .now) (h .loop .m) (h .loop .k) (h .loop .table) (h .loop .inv) (omega arith) (g .0))
@@ -72,7 +72,7 @@ same-length-2 c =
 returns-2 : tie.Need-returns-2 Inv-loop μ-loop
 returns-2 c =
     let h = c .before in
-    let s = c .before .before .before .before .before .before .before .before in
+    let s = c .before .before .before .before .before .before .before .before .before in
     let a = s .args in
     let w = writing-full (netOf (lend (a .widths .now) (a .guards .now))) (at (a .starts .now)) (a .n) (a .path) (a .table .now) (h .loop .m) (h .loop .k) (h .loop .table) (h .loop .inv) (omega (arith, s .pre .1 .1 .1 .1, s .pre .1 .0 .few)) (omega arith) in
     (w .0, w .1)
