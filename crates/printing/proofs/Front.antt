@@ -1,38 +1,17 @@
--- What comes after the first bytes of the input changes nothing. Assumes nothing.
+-- What is made of the input on standard output and on standard error. Assumes nothing.
 use Prim.Native.Nat.{ℕ, _≤_}
-use mathlib.Core.Path.{_≡_, ap, _∙_}
-use mathlib.Core.List.{List, _++_}
-use native.Mathlib.Omega.{arith}
+use mathlib.Core.Path.{_≡_}
+use mathlib.Core.List.{List, []}
 use lib.ListN.{length, take}
-use lib.Seq.{take-append-seam}
-use Rattle.rules.specs.Tables.{cleared, lend}
-use Rattle.rules.specs.Calls.{reading}
-use Rattle.rules.specs.Program.{printed}
-use Rattle.printing.specs.Made.{noted, Made}
-use Rattle.io.proofs.Counting.{counts}
-use Rattle.sheet_laws.specs.FirstBytes.{first-bytes-from}
+use Rattle.rules.specs.Program.{refusalText, plannedText, onSheet, printed}
+use Rattle.console.specs.Made.{Made}
+use Rattle.console.proofs.Making.{sheet-front, made-front}
+use Rattle.printing.specs.Made.{noteOf, noted}
 
-printed-front : (l z : List ℕ) → 65536 ≤ length l → printed l ≡ printed (l ++ z)
+pub made-printed : (input out : List ℕ) (r : ℕ) → r ≤ length out → take r out ≡ onSheet refusalText plannedText input → Made printed input r out
 unfolding printed
-printed-front l z h = rw (first-bytes-from (length l) (l ++ z) (cleared 1024 0) (lend (cleared 128 0) (cleared 16384 0)) (cleared 128 0) (omega arith), take-append-seam l z)
+made-printed input out r l e = made-front printed input out r l e (λ rest h. sheet-front refusalText plannedText input rest h)
 
-noted-front : (l z : List ℕ) → 65536 ≤ length l → noted l ≡ noted (l ++ z)
+pub made-noted : (input out : List ℕ) (r : ℕ) → r ≤ length out → take r out ≡ onSheet (λ number line. []) noteOf input → Made noted input r out
 unfolding noted
-noted-front l z h = rw (first-bytes-from (length l) (l ++ z) (cleared 1024 0) (lend (cleared 128 0) (cleared 16384 0)) (cleared 128 0) (omega arith), take-append-seam l z)
-
--- what is made of an input
-pub made-printed : (input out : List ℕ) (r : ℕ) → r ≤ length out → take r out ≡ printed input → Made printed input r out
-made-printed input out r l e = record {
-  within = l;
-  front = counts r out l .1;
-  made = e;
-  whole = λ rest h. e ∙ printed-front input rest h;
-}
-
-pub made-noted : (input out : List ℕ) (r : ℕ) → r ≤ length out → take r out ≡ noted input → Made noted input r out
-made-noted input out r l e = record {
-  within = l;
-  front = counts r out l .1;
-  made = e;
-  whole = λ rest h. e ∙ noted-front input rest h;
-}
+made-noted input out r l e = made-front noted input out r l e (λ rest h. sheet-front (λ number line. []) noteOf input rest h)

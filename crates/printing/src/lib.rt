@@ -4,7 +4,8 @@ ghost use Prim.Native.Nat.{_≤_};
 ghost use lib.ListN.{length, take};
 ghost use Rattle.rules.specs.Tables.{lend};
 ghost use Rattle.rules.specs.Program.{plannedText, printed};
-ghost use Rattle.printing.specs.Made.{noteOf, noted, Made};
+ghost use Rattle.console.specs.Made.{Made};
+ghost use Rattle.printing.specs.Made.{noteOf, noted};
 
 // How many bytes are for standard output, and how many for the line on standard error: none where the sheet
 // is refused.
@@ -30,7 +31,7 @@ fn planned(
         (now (starts .entry)))
         × (r .out ≤ 45489) ⌝ }
     ensures { λ r. ⌜ (take (r .line) (now (line .exit))
-        ≡ noteOf n (lend (now (widths .entry)) (now (guards .entry))) (now (starts .entry)))
+        ≡ noteOf n (now (labels .entry)) (lend (now (widths .entry)) (now (guards .entry))) (now (starts .entry)))
         × (r .line ≤ 80) ⌝ }
 {
     let mut order = [0u8; rules::PATHS];

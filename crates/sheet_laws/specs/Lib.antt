@@ -4,3 +4,4 @@ pub mod Lines
 pub mod Writes
 pub mod FirstBytes
 pub mod Sizes
+pub mod Reads

@@ -1,10 +1,12 @@
 use mathlib.Core.Path.{_∙_}
+use mathlib.Core.List.{[]}
 use native.Mathlib.Omega.{arith}
 use denote.Ref.{now}
 use Rattle.rules.specs.Tables.{lend}
-use Rattle.rules.specs.Program.{refusalText}
+use Rattle.rules.specs.Program.{refusalText, plannedText}
 use Rattle.console.proofs.Keeping.{front}
-use Rattle.printing.proofs.Prints.{short-refusal, few-paths, prints-refusal, prints-plan, notes-nothing, notes-plan}
+use Rattle.sheet_laws.specs.Reads.{short-refusal, few-paths, on-refusal, on-tables}
+use Rattle.printing.specs.Made.{noteOf}
 use Rattle.printing.proofs.Front.{made-printed, made-noted}
 use borrow.Author.Needs.{needs}
 use Rattle.printing.proofs.answer.Statement.{statement}
@@ -47,8 +49,8 @@ returns c =
     let t = c .before .before .before .before .if1 .taken in (
       made-printed (now (a .input)) (f .last .0) (f .result) (omega (arith, f .ensures .1, f .kept, q .4))
           (front (now (a .out)) (f .last .0) (refusalText (d .result .number) (d .result .place)) (f .result) (f .ensures .0) (omega (arith, f .ensures .0 .0, f .ensures .1, q .4))
-          ∙ prints-refusal (now (a .input)) (now (a .labels)) (lend (now (a .widths)) (now (a .guards))) (now (a .starts)) (q .0) (q .1) (q .2) (q .3) (d .result) (d .last .1 .0) (lend (d .last .1 .1 .0) (d .last .1 .1 .1 .0)) (d .last .1 .1 .1 .1 .0) (d .ensures) t),
-      made-noted (now (a .input)) (now (a .line)) 0 (omega arith) (notes-nothing (now (a .input)) (now (a .labels)) (lend (now (a .widths)) (now (a .guards))) (now (a .starts)) (q .0) (q .1) (q .2) (q .3) (d .result) (d .last .1 .0) (lend (d .last .1 .1 .0) (d .last .1 .1 .1 .0)) (d .last .1 .1 .1 .1 .0) (d .ensures) t),
+          ∙ on-refusal (now (a .input)) (now (a .labels)) (lend (now (a .widths)) (now (a .guards))) (now (a .starts)) (q .0) (q .1) (q .2) (q .3) (d .result) (d .last .1 .0) (lend (d .last .1 .1 .0) (d .last .1 .1 .1 .0)) (d .last .1 .1 .1 .1 .0) (d .ensures) refusalText plannedText t),
+      made-noted (now (a .input)) (now (a .line)) 0 (omega arith) (on-refusal (now (a .input)) (now (a .labels)) (lend (now (a .widths)) (now (a .guards))) (now (a .starts)) (q .0) (q .1) (q .2) (q .3) (d .result) (d .last .1 .0) (lend (d .last .1 .1 .0) (d .last .1 .1 .1 .0)) (d .last .1 .1 .1 .1 .0) (d .ensures) (λ number line. []) noteOf t),
     )
 
 planned-requires : tie.Need-planned-requires
@@ -85,8 +87,8 @@ returns-2 c =
     let d = c .before .before .before .before .before .before .before .before .before .before .before .before .before .before .before .before .before .before .before .before .before .before .before .read in
     let f = c .before .before .before .before .before .before .planned in
     let t = c .before .before .before .before .before .before .before .before .before .before .before .before .before .if1 .left in (
-      made-printed (now (a .input)) (f .last .1 .1 .1 .1 .1 .0) (f .result .out) (omega (arith, f .ensures .0 .1, f .kept, q .4)) (f .ensures .0 .0 ∙ prints-plan (now (a .input)) (now (a .labels)) (lend (now (a .widths)) (now (a .guards))) (now (a .starts)) (q .0) (q .1) (q .2) (q .3) (d .result) (d .last .1 .0) (lend (d .last .1 .1 .0) (d .last .1 .1 .1 .0)) (d .last .1 .1 .1 .1 .0) (d .ensures) t),
-      made-noted (now (a .input)) (f .last .1 .1 .1 .1 .1 .1 .0) (f .result .line) (omega (arith, f .ensures .1 .1, f .kept, q .5)) (f .ensures .1 .0 ∙ notes-plan (now (a .input)) (now (a .labels)) (lend (now (a .widths)) (now (a .guards))) (now (a .starts)) (q .0) (q .1) (q .2) (q .3) (d .result) (d .last .1 .0) (lend (d .last .1 .1 .0) (d .last .1 .1 .1 .0)) (d .last .1 .1 .1 .1 .0) (d .ensures) t),
+      made-printed (now (a .input)) (f .last .1 .1 .1 .1 .1 .0) (f .result .out) (omega (arith, f .ensures .0 .1, f .kept, q .4)) (f .ensures .0 .0 ∙ on-tables (now (a .input)) (now (a .labels)) (lend (now (a .widths)) (now (a .guards))) (now (a .starts)) (q .0) (q .1) (q .2) (q .3) (d .result) (d .last .1 .0) (lend (d .last .1 .1 .0) (d .last .1 .1 .1 .0)) (d .last .1 .1 .1 .1 .0) (d .ensures) refusalText plannedText t),
+      made-noted (now (a .input)) (f .last .1 .1 .1 .1 .1 .1 .0) (f .result .line) (omega (arith, f .ensures .1 .1, f .kept, q .5)) (f .ensures .1 .0 ∙ on-tables (now (a .input)) (now (a .labels)) (lend (now (a .widths)) (now (a .guards))) (now (a .starts)) (q .0) (q .1) (q .2) (q .3) (d .result) (d .last .1 .0) (lend (d .last .1 .1 .0) (d .last .1 .1 .1 .0)) (d .last .1 .1 .1 .1 .0) (d .ensures) (λ number line. []) noteOf t),
     )
 
 pub answer-spec : {M : Type 1} → statement M

@@ -37,7 +37,7 @@ returns c =
     let p = c .before .before .before .before .before .before .before .before .before .before .before .before .plan in
     let w = c .before .before .before .before .before .before .write in
     let l = c .before .before .note in
-    let z = note-of (a .n) (lend (now (a .widths)) (now (a .guards))) (now (a .starts)) _ (p .last .1 .1 .1 .0) (p .last .1 .1 .1 .1 .0) (p .result) blank-order (p .ensures) in (
+    let z = note-of (a .n) (now (a .labels)) (lend (now (a .widths)) (now (a .guards))) (now (a .starts)) _ (p .last .1 .1 .1 .0) (p .last .1 .1 .1 .1 .0) (p .result) blank-order (p .ensures) in (
       (
         prints-sheet (a .n) (now (a .labels)) (lend (now (a .widths)) (now (a .guards))) (now (a .starts)) _ (p .last .1 .1 .1 .0) (p .last .1 .1 .1 .1 .0) (now (a .out)) (w .last .1 .1 .1 .1 .1 .0) (p .result) (w .result) blank-order (s .pre .2) (p .ensures) (w .ensures),
         prints-within (a .n) (now (a .labels)) (lend (now (a .widths)) (now (a .guards))) (p .last .1 .1 .1 .1 .0) (now (a .out)) (w .last .1 .1 .1 .1 .1 .0) (w .result) (s .pre .2) (w .ensures),

@@ -1,0 +1,117 @@
+// An inner crate of the ask program (RULES 26): what its arguments ask for, the path that a label names, and the
+// highest slot of a plan.
+use text::Next;
+ghost use mathlib.Core.Path.{_≡_};
+ghost use mathlib.Core.Bool.{true, false};
+ghost use mathlib.Core.List.{List, []};
+ghost use Prim.Native.Nat.{ℕ, _≤_, _<_};
+ghost use lib.ListN.{length};
+ghost use Rattle.rules.specs.Tables.{at, lend};
+ghost use Rattle.rules.specs.Plan.{netOf, highest};
+ghost use Rattle.rules.specs.Text.{label, word};
+ghost use Rattle.rules.specs.Sheet.{find};
+ghost use Rattle.rules.specs.Asking.{isWhole, asked};
+ghost use Rattle.questions.specs.Asks.{Asks};
+
+// What the arguments ask for: why a path stands where it stands, or whether the plan is valid. The others are
+// answered without a sheet: no label is given, what is given is none, or the words are others.
+pub enum Question {
+    Reason,
+    Verdict,
+    NoLabel,
+    BadLabel,
+    NoWord,
+}
+
+// Whether an argument is a word, byte for byte and whole: a longer one that begins so is another word.
+fn is_word(arg: &[u8], w: &[u8]) -> bool
+    ensures { λ r. ⌜ r ≡ isWhole (word (now (w .entry)) (now (arg .entry))) ⌝ }
+{
+    let Next::At(after) = text::word(arg, 0, w) else {
+        return false;
+    };
+    after == arg.len()
+}
+
+// Whether an argument is a label, whole.
+fn is_label(arg: &[u8]) -> bool
+    ensures { λ r. ⌜ r ≡ isWhole (label (now (arg .entry))) ⌝ }
+    ensures { λ r. ⌜ (r ≡ true → length (now (arg .entry)) ≤ 8) ⌝ }
+{
+    let Next::At(end) = text::label(arg, 0) else {
+        return false;
+    };
+    end == arg.len()
+}
+
+// What so many arguments ask for, of which the first two are given.
+pub fn asked_for(count: usize, first: &[u8], second: &[u8]) -> Question
+    ensures { λ r. ⌜ Asks count (now (first .entry)) (now (second .entry)) r ⌝ }
+{
+    if is_word(first, b"why") {
+        if count == 1 {
+            return Question::NoLabel;
+        }
+        if count != 2 {
+            return Question::NoWord;
+        }
+        if is_label(second) {
+            return Question::Reason;
+        }
+        return Question::BadLabel;
+    }
+    if count != 1 {
+        return Question::NoWord;
+    }
+    if is_word(first, b"judge") {
+        return Question::Verdict;
+    }
+    Question::NoWord
+}
+
+// Whether a sheet is asked for. Where none is, the answer is the same whatever the input is, so it is not read.
+pub fn needs_input(count: usize, first: &[u8], second: &[u8]) -> bool
+    ensures { λ r. ⌜ (r ≡ false → (input other : List ℕ)
+        → asked count (now (first .entry)) (now (second .entry)) input
+        ≡ asked count (now (first .entry)) (now (second .entry)) other) ⌝ }
+{
+    match asked_for(count, first, second) {
+        Question::Reason => true,
+        Question::Verdict => true,
+        Question::NoLabel => false,
+        Question::BadLabel => false,
+        Question::NoWord => false,
+    }
+}
+
+// The path that is called by a name, n where none is. Labels are compared as bytes, so 0417 is not 417.
+pub fn path_called(n: usize, labels: &[u8], name: &[u8]) -> usize
+    requires { ⌜ (n ≤ 128) × (length (now labels) ≡ 1024) ⌝ }
+    ensures { λ r. ⌜ r ≡ find (now (labels .entry)) n (now (name .entry)) ⌝ }
+{
+    let key = labels::label_key(name, 0, name.len());
+    let mut k: usize = 0;
+    while k < n {
+        if labels::row_key(labels, k) == key {
+            return k;
+        }
+        k += 1;
+    }
+    k
+}
+
+// The highest slot of a plan whose numbers are within their limits.
+pub fn highest_slot(n: usize, widths: &[u16], starts: &[u16]) -> usize
+    requires { ⌜ (n ≤ length (now widths)) × (n ≤ length (now starts))
+        × ((k : ℕ) → k < n → (1 ≤ at (now widths) k) × (at (now widths) k ≤ 64) × (at (now starts) k ≤ 16384)) ⌝ }
+    ensures { λ r. ⌜ (r ≡ highest (netOf (lend (now (widths .entry)) [])) (at (now (starts .entry))) n)
+        × (r ≤ 16448) ⌝ }
+{
+    let mut top: u16 = 0;
+    let mut k = 0;
+    while k < n {
+        top = engine::larger(top, starts[k] + widths[k] - 1);
+        k += 1;
+    }
+    top as usize
+}
