@@ -39,7 +39,8 @@ second [--seed S] [--minutes M] [--only CALL,..] [--groups GROUP,..] [--threads 
                 chains ask
   --threads T   threads (default: as many as there are processors)
   --trace       names each call and its case before it is made (for a library that crashes)
-second --print  prints what the plan program has to print for standard input; calls no library
+second --print [WORD ..]  prints what the plan program has to print for standard input, or with
+                words the program ask that is given them; calls no library
 NESBRUNKA_LIB (when built, an absolute path) is the folder of libnesbrunka.a, NESBRUNKA_PLAN the
 plan program, NESBRUNKA_ASK the program ask.";
 
@@ -52,10 +53,11 @@ struct Options {
 }
 
 fn main() -> ExitCode {
-    if std::env::args().skip(1).eq(["--print"]) {
-        return print();
+    let mut args = std::env::args().skip(1).peekable();
+    if args.next_if(|arg| arg == "--print").is_some() {
+        return print(&args.map(String::into_bytes).collect::<Vec<_>>());
     }
-    match options(std::env::args().skip(1)) {
+    match options(args) {
         Err(message) => {
             eprintln!("{message}");
             ExitCode::from(2)
@@ -64,11 +66,13 @@ fn main() -> ExitCode {
     }
 }
 
-/// One run of the plan program by this program's own rules: the examples' answers come from here.
-fn print() -> ExitCode {
+/// One run of the plan program, or with words of the program ask, by this program's own rules: the
+/// examples' answers come from here.
+fn print(words: &[Vec<u8>]) -> ExitCode {
     let mut text = Vec::new();
     let read = std::io::stdin().read_to_end(&mut text);
-    let done = read.and_then(|_| std::io::stdout().write_all(&sheet::program(&text)));
+    let said = if words.is_empty() { sheet::program(&text) } else { ask::program(words, &text) };
+    let done = read.and_then(|_| std::io::stdout().write_all(&said));
     ExitCode::from(u8::from(done.is_err()))
 }
 
