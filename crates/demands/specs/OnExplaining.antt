@@ -5,7 +5,7 @@ use mathlib.Core.Logic.{_⊎_, inl, inr, _↔_}
 use mathlib.Core.List.{List, _++_}
 use native.Mathlib.Omega.{arith}
 use native.Mathlib.Decide.{decLt, ℕ-discrete}
-use lib.ListN.{length, take, drop}
+use lib.ListN.{length, set, take, drop, length-set}
 use lib.Seq.{take-append-seam}
 use Rattle.rules.specs.declared.Why.{Why}
 use Rattle.rules.specs.Tables.{at, cleared, Lent}
@@ -13,14 +13,14 @@ use Rattle.rules.specs.Plan.{Net, netOf, Conflict, past, Valid}
 use Rattle.rules.specs.Packing.{lowest, packed}
 use Rattle.rules.specs.Pressing.{SameSides, byStart, pressed}
 use Rattle.rules.specs.Reason.{chain, down, HoldsUp, last, Chain, CanStand, along}
-use Rattle.rules.specs.Calls.{Left, donePacked, packing, donePressed, pressing, doneWhy, explaining}
-use Rattle.table_laws.specs.Tables.{cleared-length}
+use Rattle.rules.specs.Calls.{Left, judging, donePacked, packing, donePressed, pressing, doneWhy, explaining}
+use Rattle.table_laws.specs.Tables.{at-same, at-other, cleared-length}
 use Rattle.plan_laws.specs.Good.{Good}
 use Rattle.plan_laws.specs.Arranged.{arranged-order}
 use Rattle.plan_laws.specs.Fits.{network-good}
 use Rattle.plan_laws.specs.Reason.{chain-is, chain-few, chain-inside, chain-only}
-use Rattle.plan_laws.specs.Answers.{Explainable, explaining-explainable, explainable-explaining, Judgeable, pressing-judgeable, judgeable-pressing, Packable, packing-packable, packable-packing}
-use Rattle.demands.specs.Reason.{chain-sum, chain-reason, sides-reason, down-stands, down-meets, down-none, down-some, packed-ends}
+use Rattle.plan_laws.specs.Answers.{Explainable, explaining-explainable, explainable-explaining, Judgeable, judgeable-judging, pressing-judgeable, judgeable-pressing, Packable, packing-packable, packable-packing}
+use Rattle.demands.specs.Reason.{chain-sum, chain-reason, sides-reason, down-stands, down-meets, down-valid, down-none, down-some, packed-ends}
 use Rattle.demands.specs.OnPacking.{packing-valid, packing-starts}
 use Rattle.demands.specs.OnPressing.{pressed-judgeable}
 
@@ -96,6 +96,26 @@ module _ (n : ℕ) (lent : Lent) (starts : List ℕ) (path : ℕ) (table : List 
   pub explaining-meets : (s : ℕ) → s + why .answer .down ≡ at starts (last (named why))
       → (s ≡ 1) ⊎ ((j : ℕ) × (j < n) × Conflict net j (last (named why)) × (at starts j < s) × (past net j (last (named why)) (at starts j) ≡ s))
   explaining-meets s q = down-meets net n good (at starts) (e .valid) (last (named why)) last-path s (ap (λ (d : ℕ). s + d) (sym down-is) ∙ q)
+
+  -- so the table with the last path so far down, or less, is judged valid
+  pub explaining-moves : (s : ℕ) → 1 ≤ s → s ≤ at starts (last (named why)) → at starts (last (named why)) ≤ s + why .answer .down
+      → judging n lent (set starts (last (named why)) s) .number ≡ 0
+  explaining-moves s some l h =
+      judgeable-judging n lent (set starts k s) (record {
+        network = e .network;
+        legal = record { size = length-set starts k s ∙ e .legal .size; start = λ i m. legal i m (ℕ-discrete i k) };
+        valid = down-valid net n good (at starts) (e .valid) k last-path s l (rw down-is at h) (at (set starts k s)) (at-same starts k s room) (λ i ne. at-other starts k s i ne);
+      })
+    where
+      k : ℕ
+      k = last (named why)
+
+      room : k < length starts
+      room = omega (arith, last-path, e .network .few, e .legal .size)
+
+      legal : (i : ℕ) → i < n → Dec (i ≡ k) → (1 ≤ at (set starts k s) i) × (at (set starts k s) i ≤ 16384)
+      legal i m (yes q) = rw (q, at-same starts k s room) (some, omega (arith, l, e .legal .start k last-path .1))
+      legal i m (no q) = rw (at-other starts k s i q) (e .legal .start i m)
 
   -- it cannot at all exactly where it stands in slot 1
   pub explaining-ends : (why .answer .down ≡ 0) ↔ (at starts (last (named why)) ≡ 1)

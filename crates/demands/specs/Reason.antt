@@ -6,7 +6,7 @@ use mathlib.Core.Logic.{_≢_, _⊎_, inl, inr, _↔_}
 use mathlib.Core.Bool.{Bool, true, false, cond}
 use mathlib.Core.List.{List}
 use native.Mathlib.Omega.{arith}
-use native.Mathlib.Decide.{decLt, decLe}
+use native.Mathlib.Decide.{decLt, decLe, ℕ-discrete}
 use lib.ListN.{length}
 use lib.Dec.{ltb}
 use borrow.Author.Tests.{ltb-true}
@@ -18,7 +18,7 @@ use Rattle.rules.specs.Pressing.{SameSides}
 use Rattle.rules.specs.Reason.{isBelow, bottom, down, HoldsUp, last, Chain, CanStand, along}
 use Rattle.table_laws.specs.Scans.{largest-ge, largest-le, largest-at}
 use Rattle.plan_laws.specs.Good.{Good}
-use Rattle.plan_laws.specs.Apart.{lower-clear}
+use Rattle.plan_laws.specs.Apart.{clear-lt, lower-clear}
 use Rattle.plan_laws.specs.Lowest.{lowest-local}
 use Rattle.plan_laws.specs.Plans.{everywhere, packs}
 use Rattle.plan_laws.specs.Reason.{below-parts, parts-below, chain-inside}
@@ -148,6 +148,46 @@ module _ (net : Net) (n : ℕ) (good : Good net n) (plan : ℕ → ℕ) where
             met : (plan k ≡ net .low k) ⊎ ((j : ℕ) × (j < n) × Conflict net j k × (plan j < plan k) × (past net j k (plan j) ≡ plan k)) → ⊥
             met (inl z) = ne z
             met (inr (j, g, c, b, m)) = free j (record { path = g; conflict = c; lower = b; meets = m })
+
+    -- with it so far down the plan is still valid: those above it are as clear as before
+    pub down-valid : (s : ℕ) → s ≤ plan k → plan k ≤ s + down net plan n k → (other : ℕ → ℕ) → other k ≡ s → ((i : ℕ) → i ≢ k → other i ≡ plan i) → Valid net n other
+    down-valid s g h other at-k rest = record { lows = λ i m. lows i m (ℕ-discrete i k); apart = λ i j lt m c. apart i j lt m c (ℕ-discrete i k) (ℕ-discrete j k) }
+      where
+        stands : CanStand net plan n k s
+        stands = down-stands s g .1 h
+
+        lows : (i : ℕ) → i < n → Dec (i ≡ k) → net .low i ≤ other i
+        lows i m (yes e) = subst (λ x. net .low x ≤ other x) (sym e) (omega (arith, at-k, stands .0))
+        lows i m (no e) = omega (arith, rest i e, v .lows i m)
+
+        -- a path that was clear below it, and one that was clear above it
+        below : (i : ℕ) → i < n → i ≢ k → Conflict net i k → Clear net plan i k → Clear net other i k
+        below i m ne c x = omega (arith, rest i ne, at-k, stands .1 i m c (clear-lt net n good plan i k m x))
+
+        over : (i : ℕ) → i ≢ k → Clear net plan k i → Clear net other k i
+        over i ne x = omega (arith, rest i ne, at-k)
+
+        pair : (i : ℕ) → i < n → i ≢ k → Conflict net i k → Clear net plan i k ⊎ Clear net plan k i → Clear net other i k ⊎ Clear net other k i
+        pair i m ne c (inl x) = inl (below i m ne c x)
+        pair i m ne c (inr x) = inr (over i ne x)
+
+        flip : {A B : Type 0} → A ⊎ B → B ⊎ A
+        flip (inl x) = inr x
+        flip (inr x) = inl x
+
+        apart : (i j : ℕ) → i < j → j < n → Conflict net i j → Dec (i ≡ k) → Dec (j ≡ k) → Clear net other i j ⊎ Clear net other j i
+        apart i j lt m c (yes e) (yes f) = absurd (omega arith)
+        apart i j lt m c (yes e) (no f) =
+            subst (λ x. Clear net other x j ⊎ Clear net other j x) (sym e)
+            (flip (pair j m f (subst (λ x. Conflict net j x) e (omega (arith, good .mirrored i j (omega arith) m))) (flip (subst (λ x. Clear net plan x j ⊎ Clear net plan j x) e (v .apart i j lt m c)))))
+        apart i j lt m c (no e) (yes f) =
+            subst (λ x. Clear net other i x ⊎ Clear net other x i) (sym f)
+            (pair i (omega arith) e (subst (λ x. Conflict net i x) f c) (subst (λ x. Clear net plan i x ⊎ Clear net plan x i) f (v .apart i j lt m c)))
+        apart i j lt m c (no e) (no f) = keep (v .apart i j lt m c)
+          where
+            keep : Clear net plan i j ⊎ Clear net plan j i → Clear net other i j ⊎ Clear net other j i
+            keep (inl x) = inl (omega (arith, rest i e, rest j f))
+            keep (inr x) = inr (omega (arith, rest i e, rest j f))
 
 -- A packed plan: each path is on its lowest start, or an earlier one holds it up
 module _ (net : Net) (plan order : ℕ → ℕ) where
