@@ -41,5 +41,6 @@ pub mod OnLines
 pub mod OnReading
 pub mod ReadCells
 pub mod OnProgram
+pub mod OnAsking
 pub mod LongestSheet
 pub mod SheetForm

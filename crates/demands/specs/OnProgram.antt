@@ -90,7 +90,7 @@ module _ (n : ℕ) (lent : Lent) (order starts : List ℕ) (seed rounds : ℕ) (
 abbrev pub inputRead : List ℕ → Left SheetRead (List ℕ × Lent × List ℕ)
 inputRead input = reading input (cleared 1024 0) (lend (cleared 128 0) (cleared 16384 0)) (cleared 128 0)
 
-own-tables : SheetTables (cleared 1024 0) (lend (cleared 128 0) (cleared 16384 0)) (cleared 128 0)
+pub own-tables : SheetTables (cleared 1024 0) (lend (cleared 128 0) (cleared 16384 0)) (cleared 128 0)
 own-tables = record { labelsSize = cleared-length 1024 0; widthsSize = cleared-length 128 0; guardsSize = cleared-length 16384 0; startsSize = cleared-length 128 0 }
 
 -- refused: one line, with the number and the line
@@ -120,10 +120,10 @@ module _ (input : List ℕ) (read : inputRead input .answer .number ≡ 0) where
   starts = inputRead input .tables .2
 
   -- seed 1 and 1,000 rounds
-  abbrev plan : Left Planned (List ℕ × List ℕ)
+  abbrev pub plan : Left Planned (List ℕ × List ℕ)
   plan = planning n lent (cleared 128 0) starts 1 1000
 
-  abbrev plannedStarts : List ℕ
+  abbrev pub plannedStarts : List ℕ
   plannedStarts = plan .tables .1
 
   w : Writable n labels lent starts
@@ -146,6 +146,10 @@ module _ (input : List ℕ) (read : inputRead input .answer .number ≡ 0) where
 
   pub printed-valid : Valid (netOf lent) n (at plannedStarts)
   printed-valid = rw (made .starts-are) (plan-valid n lent (made .its-order) starts (made .packable))
+
+  -- it is the packing of some order
+  pub printed-packed : (order : List ℕ) × Packable n lent order starts × (plannedStarts ≡ packedStarts n lent order starts)
+  printed-packed = (made .its-order, made .packable, made .starts-are)
 
   planned-writable : Writable n labels lent plannedStarts
   planned-writable = record {
