@@ -39,9 +39,9 @@
 #include <stddef.h>
 #include <stdint.h>
 
-#define NESBRUNKA_VERSION "0.10.0"
+#define NESBRUNKA_VERSION "0.11.0"
 #define NESBRUNKA_VERSION_MAJOR 0
-#define NESBRUNKA_VERSION_MINOR 10
+#define NESBRUNKA_VERSION_MINOR 11
 #define NESBRUNKA_VERSION_PATCH 0
 
 #ifdef __cplusplus

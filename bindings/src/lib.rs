@@ -10,6 +10,7 @@
 //! | guards | [`CELLS`] | the cell of i and j is 128i + j: 0 to [`GUARD_MOST`] is a conflict with that guard, [`NO_CONFLICT`] is none; the diagonal is none, the cells of i, j and j, i are equal |
 //! | starts | [`PATHS`] | 1 to [`START_MOST`]; 0 is no start |
 //! | order | [`PATHS`] | the first n hold each of 0 to n-1 once |
+//! | chain | [`PATHS`] | the paths that [`why`] names |
 //! | labels | [`LABELS`] | [`LABEL`] bytes a path, filled at the end with zero bytes |
 //!
 //! Each answer has a number, [`DONE`] or one of the refusals below, and its place; the other
@@ -41,7 +42,7 @@ pub mod sys;
 
 pub use sys::{Floored, Judged, Packed, Planned, Pressed, Reason, SheetRead, SheetWritten, Sided};
 
-/// Cells of widths, of starts and of an order; the most paths.
+/// Cells of widths, of starts, of an order and of a chain; the most paths.
 pub const PATHS: usize = 128;
 /// Cells of guards.
 pub const CELLS: usize = 16384;
@@ -140,10 +141,10 @@ pub fn press(n: usize, widths: &[u16], guards: &[u8], starts: &mut [u16]) -> Pre
     unsafe { sys::nesbrunka_press(n, w, widths.len(), g, guards.len(), s, starts.len()) }
 }
 
-/// Why a path stands where it stands, in a valid plan: into the first `length` cells of `chain` the
-/// path, then the conflicting lower path whose end + guard + 1 is its start, the lowest number where
-/// several fit, and so on down to slot 1, or to the first path that nothing holds up; `down` says
-/// how many slots that one can come down.
+/// Why a path of a valid plan stands where it stands: the first `length` cells of `chain` name the
+/// path and then each time the lowest number among those that hold the one before up, being in
+/// conflict with it, below it, and no slot further than the guard. It ends in slot 1, or at a path
+/// that nothing holds up and that can come down by `down` slots.
 ///
 /// Tests in this order: 2, 1, 3, 4, 5, 7, 8, and 6 with place 0 for a path of n or more.
 #[inline]

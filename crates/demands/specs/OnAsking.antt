@@ -195,8 +195,11 @@ module _ (input : List ℕ) (read : inputRead input .answer .number ≡ 0) where
   unfolding onSheet judgeText
   asked-planned second =
       judge-asked second (printed input)
-      ∙ rw (again, eq-eqb (judging (inputRead input .answer .n) (inputRead input .tables .1) (plannedStarts input read) .number) 0 judged,
-      ← planning-highest (inputRead input .answer .n) (inputRead input .tables .1) (cleared 128 0) (inputRead input .tables .2) 1 1000 (program-plans input read))
+      ∙ rw (
+        again,
+        eq-eqb (judging (inputRead input .answer .n) (inputRead input .tables .1) (plannedStarts input read) .number) 0 judged,
+        ← planning-highest (inputRead input .answer .n) (inputRead input .tables .1) (cleared 128 0) (inputRead input .tables .2) 1 1000 (program-plans input read),
+      )
     where
       p : Packable (inputRead input .answer .n) (inputRead input .tables .1) (printed-packed input read .0) (inputRead input .tables .2)
       p = printed-packed input read .1

@@ -237,7 +237,7 @@ constant-short-unfit program meets constant same =
         sym (ap (λ (f : Fault). f .short) (meets (3, netT, starts)))
         ∙ same (3, netT, starts) (ap (λ (f : Fault). f .number) (meets (3, netT, starts)) ∙ z)
 
--- A reason that never names another path; and one that says of no path that it can come down
+-- (7) A reason that never names another path; and one that says of no path that it can come down
 pub alone-unfit : (program : ℕ × Lent × Table × ℕ × Table → Left Why Table) → Meets program explainingOf
     → ((given : ℕ × Lent × Table × ℕ × Table) → program given .answer .number ≡ 0 → program given .answer .length ≡ 1) → ⊥
 alone-unfit program meets alone =

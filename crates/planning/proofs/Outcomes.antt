@@ -5,7 +5,7 @@ use mathlib.Core.Logic.{_≢_}
 use mathlib.Core.Bool.{true, false, not}
 use mathlib.Core.List.{List}
 use native.Mathlib.Omega.{arith}
-use lib.ListN.{length, replicate}
+use lib.ListN.{length}
 use lib.Dec.{ltb, eqb}
 use borrow.Author.Tests.{ltb-false}
 use Rattle.rules.specs.declared.Fault.{Fault}
@@ -30,11 +30,6 @@ use Rattle.plan_laws.specs.Answers.{unless-done, unless-refused, Packable, pack
 use Rattle.plan_laws.specs.Runs.{run-packable}
 use Rattle.rounds.specs.declared.Standing.{Standing}
 use Rattle.rounds.specs.Standing.{runOf}
-
--- the table of marks before the sides are found
-pub blank : replicate 128 0 ≡ cleared 128 0
-unfolding cleared
-blank = refl
 
 -- the marks of the sides: a full table, the two-sided order and the size of the low side
 module _ (n : ℕ) (lent : Lent) (mark : List ℕ) (e : mark ≡ marks (netOf lent) n) where

@@ -72,7 +72,7 @@ reasons :
 unfolding withGuard widthsT guardsT netT three netSix six whyRow whySix whyT cleared first found firstRow foundPair largest isLower short tooClose isBelow holdsUp link isLast chainOf chain bottom down refuseIf _orElse_ scan square countFault sizeFault pathFault startFault clashFault networkFault networkSizes lentFault planSizes whyFault unless refusedWhy doneWhy explaining
 reasons = refl
 
--- the sheet of the plan program's example, with starts
+-- the sheet of the plan program's example, but for A9, which has one slot here; with starts
 sheet : String → List ℕ
 sheet starts = bytes "paths 3\n0417 2\n417 4\nA9 1\nguards 2\n0417 417 1\n417 A9 2\n" ++ bytes starts
 

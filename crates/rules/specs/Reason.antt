@@ -23,7 +23,8 @@ holdsUp net plan k j = isBelow net plan k j && eqb (past net j k (plan j)) (plan
 unfoldable pub link : Net → (ℕ → ℕ) → ℕ → ℕ → ℕ
 link net plan n k = first (holdsUp net plan k) n
 
--- a chain ends at a path on its lowest start, which is slot 1, and at one that has no link
+-- a chain ends at a path on its lowest start, which is slot 1, whatever stands below it, and at one that has no
+-- link
 unfoldable pub isLast : Net → (ℕ → ℕ) → ℕ → ℕ → Bool
 isLast net plan n k = eqb (plan k) (net .low k) || not (found (holdsUp net plan k) n)
 

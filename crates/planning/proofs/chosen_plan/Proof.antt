@@ -1,6 +1,7 @@
+use Rattle.table_laws.specs.Tables.{blank}
 use mathlib.Core.Path.{refl, sym, _∙_}
 use Rattle.rules.specs.Tables.{lend}
-use Rattle.planning.proofs.Outcomes.{blank, greedy-packable, chosen-sided, chosen-greedy}
+use Rattle.planning.proofs.Outcomes.{greedy-packable, chosen-sided, chosen-greedy}
 use borrow.Author.Needs.{needs}
 use Rattle.planning.proofs.chosen_plan.Statement.{statement}
 use Rattle.planning.proofs.chosen_plan.Tie as tie
@@ -9,7 +10,7 @@ slice-aggregate-find-sides : tie.Need-slice-aggregate-find-sides
 slice-aggregate-find-sides c = search needs
 
 find-sides-requires : tie.Need-find-sides-requires
-find-sides-requires c κs = let w = c .before .before .before .before .before .pre .network in (w .few, (w .guardsSize, blank))
+find-sides-requires c κs = let w = c .before .before .before .before .before .pre .network in (w .few, (w .guardsSize, blank 128 0))
 
 slice-aggregate-sided-plan : tie.Need-slice-aggregate-sided-plan
 slice-aggregate-sided-plan c = search needs

@@ -1,10 +1,11 @@
+use Rattle.table_laws.specs.Tables.{blank}
 use native.Mathlib.Omega.{arith}
 use mathlib.Core.Path.{_≡_, refl, sym, ap, _∙_}
 use Rattle.rules.specs.Tables.{lend}
 use Rattle.rules.specs.Numbers.{sizeFault, lentFault}
 use Rattle.table_laws.specs.Chains.{size-is}
 use Rattle.plan_laws.specs.Answers.{Sidable}
-use Rattle.planning.proofs.Outcomes.{blank, marks-full, order-is, low-is, two-refused, two-clear, two-done, two-none}
+use Rattle.planning.proofs.Outcomes.{marks-full, order-is, low-is, two-refused, two-clear, two-done, two-none}
 use borrow.Author.Needs.{needs}
 use Rattle.planning.proofs.two_sides.Statement.{statement}
 use Rattle.planning.proofs.two_sides.Tie as tie
@@ -35,7 +36,7 @@ slice-aggregate-find-sides : tie.Need-slice-aggregate-find-sides
 slice-aggregate-find-sides c = search needs
 
 find-sides-requires : tie.Need-find-sides-requires
-find-sides-requires c κs = let w = sidable (c .before) .network in (w .few, (w .guardsSize, blank))
+find-sides-requires c κs = let w = sidable (c .before) .network in (w .few, (w .guardsSize, blank 128 0))
 
 slice-aggregate-order-sides : tie.Need-slice-aggregate-order-sides
 slice-aggregate-order-sides c = search needs
