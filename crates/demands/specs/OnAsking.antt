@@ -1,9 +1,9 @@
 -- The ask program (RULES 26): what it says of a sheet is so. Assumes nothing.
-use Prim.Native.Nat.{ℕ, suc, _≤_, _<_}
+use Prim.Native.Nat.{ℕ, suc, _+_, _*_, _/_, _%_, _≤_, _<_}
 use mathlib.Core.Path.{_≡_, refl, sym, ap, _∙_}
 use mathlib.Core.Logic.{_≢_, _⊎_, inl, inr}
 use mathlib.Core.Bool.{Bool, true, false, cond, not}
-use mathlib.Core.List.{List, []}
+use mathlib.Core.List.{List, [], _++_}
 use native.Mathlib.Omega.{arith}
 use lib.ListN.{length}
 use lib.Dec.{eqb, leb}
@@ -15,13 +15,13 @@ use Rattle.rules.specs.Limits.{Starts}
 use Rattle.rules.specs.Scan.{foundPair}
 use Rattle.rules.specs.Plan.{netOf, Valid, highest, tooClose}
 use Rattle.rules.specs.Reason.{last}
-use Rattle.rules.specs.Text.{word, label}
+use Rattle.rules.specs.Text.{bytes, word, label}
 use Rattle.rules.specs.Sheet.{find}
-use Rattle.rules.specs.Writing.{hasPlan}
+use Rattle.rules.specs.Writing.{labelOf, hasPlan}
 use Rattle.rules.specs.Numbers.{noFault, _orElse_, badStart, sizeFault, startFault, clashFault, pathFault, square, refuseIf, planSizes, judgeFault, whyFault}
 use Rattle.rules.specs.Calls.{Left, left, donePacked, packing, judging, refusedWhy, doneWhy, explaining}
 use Rattle.rules.specs.Program.{refusalText, onSheet, printed}
-use Rattle.rules.specs.Asking.{reasonText, validText, clashText, noPlanText, unknownText, refusedText, whyText, judgeText, isWhole, whyWord, judgeWord, asked}
+use Rattle.rules.specs.Asking.{slotsText, reasonText, validText, clashText, noPlanText, unknownText, refusedText, whyText, judgeText, isWhole, whyWord, judgeWord, asked}
 use Rattle.table_laws.specs.Scans.{found-not}
 use Rattle.table_laws.specs.Tables.{cleared-length}
 use Rattle.table_laws.specs.Faults.{or-first, or-second, or-clear, refuse-bad, scan-at, size-good}
@@ -184,6 +184,14 @@ module _ (input : List ℕ) (read : inputRead input .answer .number ≡ 0) where
   pub asked-unknown : hasPlan n starts ≡ true → Valid (netOf lent) n (at starts) → (name : List ℕ) → isWhole (label name) ≡ true → n ≤ find labels n name → asked 2 whyWord name input ≡ unknownText name
   asked-unknown e v name q l =
       why-text name q ∙ (unfold whyText in (says-unknown labels name _ _ _ _ (no-path n lent starts (find labels n name) (cleared 128 0) (judged-valid e v) (cleared-length 128 0) l)))
+
+-- the line of a clash names the two paths of its cell
+pub clash-names : (labels : List ℕ) (i j s : ℕ) → j < 128 → clashText labels (128 * i + j) s ≡ labelOf labels i ++ (bytes " and " ++ (labelOf labels j ++ (bytes " clash: " ++ (slotsText s ++ bytes " short.\n"))))
+unfolding clashText
+clash-names labels i j s l =
+    let a : (128 * i + j) / 128 ≡ i = omega arith in
+    let b : (128 * i + j) % 128 ≡ j = omega arith in
+    rw (a, b)
 
 -- What the plan program printed, asked about: the plan is valid, with the highest slot that planning answered,
 -- and the chain of every path ends in slot 1

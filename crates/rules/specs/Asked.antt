@@ -106,6 +106,10 @@ spoken :
     ∷ ask 1 "judged" "" planned
     ∷ ask 2 "wh" "417" planned
     ∷ ask 0 "" "" planned
+    ∷ ask 2 "whys" "417" planned
+    ∷ ask 1 "why" "" "starts 2\n"
+    ∷ ask 2 "why" "a9" "starts 2\n"
+    ∷ ask 1 "judged" "" "starts 2\n"
     ∷ [])
     ≡ bytes "417 has slots 4 to 7.\nBelow it 0417 has slots 1 to 2, and the guard is 1.\n0417 is in slot 1, so 417 cannot come down in this order.\n"
     ∷ bytes "0417 has slots 1 to 2.\n0417 is in slot 1 and cannot come down.\n"
@@ -129,6 +133,10 @@ spoken :
     ∷ bytes "The words are why and judge.\n"
     ∷ bytes "The words are why and judge.\n"
     ∷ bytes "The words are why and judge.\n"
+    ∷ bytes "The words are why and judge.\n"
+    ∷ bytes "The words are why and judge.\n"
+    ∷ bytes "Say which path: why LABEL.\n"
+    ∷ bytes "A label has 1 to 8 capitals, digits or hyphens.\n"
     ∷ bytes "The words are why and judge.\n"
     ∷ []
 unfolding sheet ask planned cleared first found firstRow foundPair largest sum highest isLower short tooClose isBelow holdsUp link isLast chainOf chain bottom down then word isDigit isLabelByte run label isPlain valueFrom number spell numeral isRow find bytesFrom putRow follow lines lastField countLine pathLine guardLine pathMeans pathStep guardCell guardMeans guardStep startMeans startStep counted after ended startsPart guardsPart sheetFrom labelOf joinFrom refuseIf _orElse_ scan square countFault sizeFault pathFault startFault clashFault networkFault networkSizes lentFault planSizes judgeFault whyFault labelSizes sheetSizes unless judging refusedWhy doneWhy explaining readOutcome reading refusalText onSheet slotsText blockText standsText linkText endText reasonText validText clashText noPlanText unknownText refusedText whyText judgeText isWhole noLabelText badLabelText wordsText asked
