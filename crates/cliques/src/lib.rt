@@ -1,13 +1,13 @@
 // An inner crate: the list of the floor, its test and its value, for the calls of planning.
 use rules::Fault;
 ghost use mathlib.Core.Path.{_≡_};
-ghost use Prim.Native.Nat.{ℕ, _+_, _≤_, _<_, min};
+ghost use Prim.Native.Nat.{ℕ, _+_, _≤_, _<_};
 ghost use lib.ListN.{length};
 ghost use Rattle.rules.specs.Tables.{at, cell, Lent, lend};
-ghost use Rattle.rules.specs.Scan.{found, least, sum};
+ghost use Rattle.rules.specs.Scan.{found, sum};
 ghost use Rattle.rules.specs.Plan.{netOf};
 ghost use Rattle.rules.specs.Numbers.{scan, badMember, listFault};
-ghost use Rattle.rules.specs.Floor.{leastGuard, floor as floorOf};
+ghost use Rattle.rules.specs.Floor.{floor as floorOf};
 ghost use Rattle.plan_laws.specs.Answers.{Floorable};
 ghost use Rattle.cliques.specs.Listed.{Listed, stranger};
 
@@ -91,44 +91,6 @@ pub fn list_fault(n: usize, guards: &[u8], list: &[u8]) -> Fault
     member_fault(n, guards, list)
 }
 
-fn smaller(a: u8, b: u8) -> u8
-    ensures { λ r. ⌜ r ≡ min a b ⌝ }
-{
-    if b < a { b } else { a }
-}
-
-// The least guard between the path at position j and those before it.
-fn least_before(guards: &[u8], list: &[u8], j: usize) -> u8
-    requires { ⌜ Listed (now guards) (now list) (j + 1) ⌝ }
-    ensures { λ r. ⌜ r ≡ least 255
-        (λ i. at (now (guards .entry)) (cell (at (now (list .entry)) i) (at (now (list .entry)) j))) j ⌝ }
-{
-    let mut g: u8 = rules::NO_CONFLICT;
-    let mut i: usize = 0;
-    while i < j {
-        let h = guard_of(guards, list, i, j);
-        g = smaller(g, h);
-        i += 1;
-    }
-    g
-}
-
-// The least guard among the paths of the list; 255 where there are no two.
-fn least_guard(guards: &[u8], list: &[u8]) -> u8
-    requires { ⌜ Listed (now guards) (now list) (length (now list)) ⌝ }
-    ensures { λ r. ⌜ ((lent : Lent) → lent .guards ≡ now (guards .entry) → r
-        ≡ leastGuard (netOf lent) (at (now (list .entry))) (length (now (list .entry)))) ⌝ }
-{
-    let mut g: u8 = rules::NO_CONFLICT;
-    let mut j: usize = 0;
-    while j < list.len() {
-        let h = least_before(guards, list, j);
-        g = smaller(g, h);
-        j += 1;
-    }
-    g
-}
-
 // The widths of the paths of the list, added.
 fn widths_added(widths: &[u16], list: &[u8]) -> usize
     requires { ⌜ (length (now widths) ≡ 128)
@@ -148,14 +110,14 @@ fn widths_added(widths: &[u16], list: &[u8]) -> usize
     w
 }
 
-// The floor of a list that the tests have accepted: its widths added, and for each path but one the least
-// guard among them.
+// The floor of a list that the tests have accepted: its widths added, and the shortest walk through it.
 pub fn floor_of(widths: &[u16], guards: &[u8], list: &[u8]) -> usize
     requires { ⌜ ((n : ℕ) × Floorable n (lend (now widths) (now guards)) (now list)) ⌝ }
     ensures { λ r. ⌜ r ≡ floorOf (netOf (lend (now (widths .entry)) (now (guards .entry))))
         (at (now (list .entry))) (length (now (list .entry))) ⌝ }
 {
     let w = widths_added(widths, list);
-    let g = least_guard(guards, list);
-    w + (list.len() - 1) * (g as usize)
+    let square = walks::square_of(guards, list);
+    let g = walks::shortest(square, list.len());
+    w + (g as usize)
 }

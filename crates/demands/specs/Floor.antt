@@ -1,4 +1,4 @@
--- The floor. Assumes nothing.
+-- The floor: no valid plan's highest slot is below it, and it is not below the coarse floor. Assumes nothing.
 use Prim.Native.Nat.{ℕ, zero, suc, _+_, _-_, _*_, _≤_, _<_}
 use mathlib.Core.Path.{_≡_}
 use mathlib.Core.Logic.{_≢_, _⊎_, inl, inr}
@@ -11,15 +11,16 @@ use Rattle.rules.specs.Plan.{Net, Conflict, Clear, Valid, end, highest}
 use Rattle.plan_laws.specs.Good.{Good}
 use Rattle.rules.specs.Packing.{Order}
 use Rattle.rules.specs.Scan.{least, sum}
-use Rattle.rules.specs.Floor.{leastGuard, floor, Clique}
+use Rattle.rules.specs.Floor.{Clique, walk, shortest, floor, leastGuard, coarseFloor}
 use Rattle.rules.specs.Pressing.{byStart}
 use Rattle.table_laws.specs.Scans.{sum-ge, least-le}
 use Rattle.table_laws.specs.Orders.{sum-order}
 use Rattle.plan_laws.specs.Arranged.{arranged-order, arranged-least}
 use Rattle.plan_laws.specs.Heights.{highest-ge}
 use Rattle.plan_laws.specs.Apart.{either, clear-lt}
+use Rattle.plan_laws.specs.Walks.{shortest-le, shortest-at}
 
-pub enough : (k : ℕ) → k ≤ length (replicate {A = ℕ} k 0)
+enough : (k : ℕ) → k ≤ length (replicate {A = ℕ} k 0)
 enough k = omega (arith, length-replicate {A = ℕ} k 0)
 
 guard-le : (net : Net) (c : ℕ → ℕ) (k i j : ℕ) → i < j → j < k → leastGuard net c k ≤ net .guard (c i) (c j)
@@ -27,14 +28,14 @@ unfolding leastGuard
 guard-le net c k i j h l =
     omega (arith, least-le 255 (λ j. least 255 (λ i. net .guard (c i) (c j)) j) k j l, least-le 255 (λ i. net .guard (c i) (c j)) j i h)
 
--- the guards added along an order of a list of k paths
-abbrev pub walk : Net → (ℕ → ℕ) → ℕ → List ℕ → ℕ
-walk net c k o = sum (λ i. net .guard (c (at o i)) (c (at o (suc i)))) (k - 1)
-
 module _ (net : Net) (n : ℕ) (good : Good net n) (c : ℕ → ℕ) (k : ℕ) (q : Clique net n c k) where
+  -- the guard of two positions of the list
+  abbrev guards : ℕ → ℕ → ℕ
+  guards i j = net .guard (c i) (c j)
+
   -- two different paths of the list, whichever comes first, are in conflict and have no less than the least
   -- guard
-  pub both : (i j : ℕ) → i < k → j < k → i ≢ j → Conflict net (c i) (c j) × (leastGuard net c k ≤ net .guard (c i) (c j))
+  both : (i j : ℕ) → i < k → j < k → i ≢ j → Conflict net (c i) (c j) × (leastGuard net c k ≤ net .guard (c i) (c j))
   both i j h l ne = go (decLt i j)
     where
       go : Dec (i < j) → Conflict net (c i) (c j) × (leastGuard net c k ≤ net .guard (c i) (c j))
@@ -44,16 +45,22 @@ module _ (net : Net) (n : ℕ) (good : Good net n) (c : ℕ → ℕ) (k : ℕ) (
           (omega (arith, q .all j i (omega arith) h), omega (arith, guard-le net c k j i (omega arith) h))
 
   -- no walk is shorter than the least guard at each step
-  pub walk-ge : (o : List ℕ) → Order (at o) k k → (k - 1) * leastGuard net c k ≤ walk net c k o
-  walk-ge o ord = sum-ge (λ i. net .guard (c (at o i)) (c (at o (suc i)))) (leastGuard net c k) (k - 1)
-      (λ i l. both (at o i) (at o (suc i)) (ord .inside i (omega arith)) (ord .inside (suc i) (omega arith)) (ord .fresh i (suc i) (omega arith) (omega arith)) .1)
+  walk-ge : (o : ℕ → ℕ) → Order o k k → (k - 1) * leastGuard net c k ≤ walk guards k o
+  unfolding walk
+  walk-ge o ord = sum-ge (λ i. guards (o i) (o (suc i))) (leastGuard net c k) (k - 1)
+      (λ i l. both (o i) (o (suc i)) (ord .inside i (omega arith)) (ord .inside (suc i) (omega arith)) (ord .fresh i (suc i) (omega arith) (omega arith)) .1)
+
+  -- the floor is not below the coarse one
+  pub floor-finer : coarseFloor net c k ≤ floor net c k
+  unfolding coarseFloor floor
+  floor-finer = let s = shortest-at guards k in omega (arith, walk-ge (s .0) (s .1), s .2)
 
   module _ (p : ℕ → ℕ) (v : Valid net n p) where
     -- the list by start
-    abbrev pub o : List ℕ
+    abbrev o : List ℕ
     o = byStart k (λ i. p (c i)) (replicate k 0) k
 
-    pub ord : Order (at o) k k
+    ord : Order (at o) k k
     ord = arranged-order (λ s i j. p (c j)) k (replicate k 0) (enough k) k (omega arith)
 
     step : (m : ℕ) → suc m < k → Clear net p (c (at o m)) (c (at o (suc m)))
@@ -78,7 +85,8 @@ module _ (net : Net) (n : ℕ) (good : Good net n) (c : ℕ → ℕ) (k : ℕ) (
     climb (suc m) l = omega (arith, climb m (omega arith), step m l)
 
     -- the widths and the walk by start fit below the highest slot
-    pub along : 1 ≤ k → sum (λ i. net .width (c i)) k + walk net c k o ≤ highest net p n
+    along : 1 ≤ k → sum (λ i. net .width (c i)) k + walk guards k (at o) ≤ highest net p n
+    unfolding walk
     along pos =
         let e : suc (k - 1) ≡ k = omega arith in
         omega (
@@ -91,4 +99,4 @@ module _ (net : Net) (n : ℕ) (good : Good net n) (c : ℕ → ℕ) (k : ℕ) (
     -- T5: no valid plan's highest slot is below the floor
     pub floor-holds : 1 ≤ k → floor net c k ≤ highest net p n
     unfolding floor
-    floor-holds pos = omega (arith, along pos, walk-ge o ord)
+    floor-holds pos = omega (arith, along pos, shortest-le guards k (at o) ord)

@@ -1,75 +1,82 @@
--- The floor, as the call answers: what it is, and that no valid plan's highest slot is below it. Assumes
--- nothing.
-use Prim.Native.Nat.{ℕ, zero, suc, _+_, _-_, _*_, _≤_, _<_, min}
+-- The floor, as the call answers: what it is, by the orders of the list; that no valid plan's highest slot is
+-- below it; and that it is not below the coarse floor. Assumes nothing.
+use Prim.Native.Nat.{ℕ, _+_, _-_, _*_, _≤_, _<_}
 use mathlib.Core.Path.{_≡_, refl, _∙_}
 use mathlib.Core.Logic.{_⊎_, inl, inr}
 use mathlib.Core.List.{List}
 use native.Mathlib.Omega.{arith}
-use native.Mathlib.Decide.{decLt}
 use lib.ListN.{length}
 use Rattle.rules.specs.Tables.{at, Lent}
 use Rattle.rules.specs.Scan.{least, sum}
 use Rattle.rules.specs.Plan.{Net, netOf, highest, Valid}
-use Rattle.rules.specs.Floor.{leastGuard, floor}
+use Rattle.rules.specs.Packing.{Order}
+use Rattle.rules.specs.Floor.{walk, floor, leastGuard, coarseFloor}
 use Rattle.rules.specs.Calls.{flooring}
-use Rattle.table_laws.specs.Scans.{least-le}
-use Rattle.demands.specs.Floor.{floor-holds}
+use Rattle.table_laws.specs.Scans.{least-le, least-at}
+use Rattle.demands.specs.Floor.{floor-holds, floor-finer}
 use Rattle.plan_laws.specs.Fits.{network-good}
 use Rattle.plan_laws.specs.Answers.{Floorable, flooring-floorable, flooring-floor}
-
-pub flooring-holds : (n : ℕ) (lent : Lent) (list : List ℕ) → flooring n lent list .number ≡ 0
-    → (plan : ℕ → ℕ) → Valid (netOf lent) n plan → flooring n lent list .floor ≤ highest (netOf lent) plan n
-flooring-holds n lent list z plan v =
-    let f = flooring-floorable n lent list z in
-    rw (flooring-floor n lent list z)
-    (floor-holds (netOf lent) n (network-good n lent (f .network)) (at list) (length list) (f .clique) plan v (f .some))
-
--- the least guard of a list: no guard of two of its paths is below it; and where there are two, it is such
--- a guard
-least-reached : (d : ℕ) (f : ℕ → ℕ) (n : ℕ) → (least d f n ≡ d) ⊎ ((i : ℕ) × (i < n) × (least d f n ≡ f i))
-unfolding least
-least-reached d f zero = inl refl
-least-reached d f (suc n) = go (decLt (f n) (least d f n)) (least-reached d f n)
-  where
-    go : Dec (f n < least d f n) → (least d f n ≡ d) ⊎ ((i : ℕ) × (i < n) × (least d f n ≡ f i))
-        → (min (least d f n) (f n) ≡ d) ⊎ ((i : ℕ) × (i < suc n) × (min (least d f n) (f n) ≡ f i))
-    go (yes l) h = inr (n, omega arith, omega arith)
-    go (no l) (inl e) = inl (omega arith)
-    go (no l) (inr (i, h, e)) = inr (i, omega arith, omega arith)
+use Rattle.plan_laws.specs.Walks.{shortest-le, shortest-at}
 
 module _ (n : ℕ) (lent : Lent) (list : List ℕ) (zero-answer : flooring n lent list .number ≡ 0) where
   abbrev net : Net
   net = netOf lent
 
-  -- the widths added, and the least guard once for each path after the first
-  pub flooring-is : flooring n lent list .floor ≡ sum (λ i. net .width (at list i)) (length list) + (length list - 1) * leastGuard net (at list) (length list)
+  abbrev k : ℕ
+  k = length list
+
+  f : Floorable n lent list
+  f = flooring-floorable n lent list zero-answer
+
+  -- the slots that the paths of the list take when they stand one above another in an order of their
+  -- positions, with their guards between them and no more
+  abbrev stacked : (ℕ → ℕ) → ℕ
+  stacked order = sum (λ i. net .width (at list i)) k + walk (λ i j. net .guard (at list i) (at list j)) k order
+
+  pub flooring-holds : (plan : ℕ → ℕ) → Valid net n plan → flooring n lent list .floor ≤ highest net plan n
+  flooring-holds plan v = rw (flooring-floor n lent list zero-answer) (floor-holds net n (network-good n lent (f .network)) (at list) k (f .clique) plan v (f .some))
+
+  -- the least over all orders of the list: none has less, and some has it
+  pub flooring-least : (order : ℕ → ℕ) → Order order k k → flooring n lent list .floor ≤ stacked order
   unfolding floor
-  flooring-is = flooring-floor n lent list zero-answer
+  flooring-least order ord = rw (flooring-floor n lent list zero-answer) (omega (arith, shortest-le (λ i j. net .guard (at list i) (at list j)) k order ord))
 
-  pub flooring-least : (i j : ℕ) → i < j → j < length list → leastGuard net (at list) (length list) ≤ net .guard (at list i) (at list j)
-  unfolding leastGuard
-  flooring-least i j h l =
-      omega (arith, least-le 255 (λ j. least 255 (λ i. net .guard (at list i) (at list j)) j) (length list) j l, least-le 255 (λ i. net .guard (at list i) (at list j)) j i h)
+  pub flooring-reached : (order : ℕ → ℕ) × Order order k k × (flooring n lent list .floor ≡ stacked order)
+  unfolding floor
+  flooring-reached =
+      let s = shortest-at (λ i j. net .guard (at list i) (at list j)) k in
+      (s .0, s .1, rw (flooring-floor n lent list zero-answer) (omega (arith, s .2)))
 
-  pub flooring-reached : 2 ≤ length list
-      → (i : ℕ) × (j : ℕ) × (i < j) × (j < length list) × (leastGuard net (at list) (length list) ≡ net .guard (at list i) (at list j))
+  -- never below the coarse floor
+  pub flooring-finer : coarseFloor net (at list) k ≤ flooring n lent list .floor
+  flooring-finer = rw (flooring-floor n lent list zero-answer) (floor-finer net n (network-good n lent (f .network)) (at list) k (f .clique))
+
+  -- which is the widths and, for each path after the first, the least guard of the list: no guard of two of
+  -- its paths is below that, and where there are two, one of them is it
+  pub coarse-is : coarseFloor net (at list) k ≡ sum (λ i. net .width (at list i)) k + (k - 1) * leastGuard net (at list) k
+  unfolding coarseFloor
+  coarse-is = refl
+
+  pub coarse-least : (i j : ℕ) → i < j → j < k → leastGuard net (at list) k ≤ net .guard (at list i) (at list j)
   unfolding leastGuard
-  flooring-reached two = outer (least-reached 255 (λ j. least 255 (λ i. net .guard (at list i) (at list j)) j) (length list))
+  coarse-least i j h l =
+      omega (arith, least-le 255 (λ j. least 255 (λ i. net .guard (at list i) (at list j)) j) k j l, least-le 255 (λ i. net .guard (at list i) (at list j)) j i h)
+
+  pub coarse-reached : 2 ≤ k → (i : ℕ) × (j : ℕ) × (i < j) × (j < k) × (leastGuard net (at list) k ≡ net .guard (at list i) (at list j))
+  unfolding leastGuard
+  coarse-reached two = outer (least-at 255 (λ j. least 255 (λ i. net .guard (at list i) (at list j)) j) k)
     where
-      f : Floorable n lent list
-      f = flooring-floorable n lent list zero-answer
-
       -- a guard of two of its paths is below 255
-      below : leastGuard net (at list) (length list) < 255
-      below = let c = f .clique .all 0 1 (omega arith) (omega arith) in omega (arith, flooring-least 0 1 (omega arith) (omega arith))
+      below : leastGuard net (at list) k < 255
+      below = let c = f .clique .all 0 1 (omega arith) (omega arith) in omega (arith, coarse-least 0 1 (omega arith) (omega arith))
 
-      inner : (j : ℕ) → j < length list → leastGuard net (at list) (length list) ≡ least 255 (λ i. net .guard (at list i) (at list j)) j
+      inner : (j : ℕ) → j < k → leastGuard net (at list) k ≡ least 255 (λ i. net .guard (at list i) (at list j)) j
           → (least 255 (λ i. net .guard (at list i) (at list j)) j ≡ 255) ⊎ ((i : ℕ) × (i < j) × (least 255 (λ i. net .guard (at list i) (at list j)) j ≡ net .guard (at list i) (at list j)))
-          → (i : ℕ) × (j : ℕ) × (i < j) × (j < length list) × (leastGuard net (at list) (length list) ≡ net .guard (at list i) (at list j))
+          → (i : ℕ) × (j : ℕ) × (i < j) × (j < k) × (leastGuard net (at list) k ≡ net .guard (at list i) (at list j))
       inner j l e (inl z) = absurd (omega (arith, below))
       inner j l e (inr (i, h, q)) = (i, j, h, l, e ∙ q)
 
-      outer : (leastGuard net (at list) (length list) ≡ 255) ⊎ ((j : ℕ) × (j < length list) × (leastGuard net (at list) (length list) ≡ least 255 (λ i. net .guard (at list i) (at list j)) j))
-          → (i : ℕ) × (j : ℕ) × (i < j) × (j < length list) × (leastGuard net (at list) (length list) ≡ net .guard (at list i) (at list j))
+      outer : (leastGuard net (at list) k ≡ 255) ⊎ ((j : ℕ) × (j < k) × (leastGuard net (at list) k ≡ least 255 (λ i. net .guard (at list i) (at list j)) j))
+          → (i : ℕ) × (j : ℕ) × (i < j) × (j < k) × (leastGuard net (at list) k ≡ net .guard (at list i) (at list j))
       outer (inl z) = absurd (omega (arith, below))
-      outer (inr (j, l, e)) = inner j l e (least-reached 255 (λ i. net .guard (at list i) (at list j)) j)
+      outer (inr (j, l, e)) = inner j l e (least-at 255 (λ i. net .guard (at list i) (at list j)) j)

@@ -12,6 +12,8 @@ pub mod Short
 pub mod Judge
 pub mod Fits
 pub mod Reason
+-- orders tried, and the shortest walk
+pub mod Walks
 -- what an answer of 0 means
 pub mod Answers
 -- the loops of the code

@@ -15,7 +15,7 @@ use Rattle.rules.specs.Packing.{placed, reach, lowest, packed, height}
 use Rattle.rules.specs.Pressing.{picked, choose, arranged, pressed}
 use Rattle.rules.specs.Sides.{touches, opposite, marks, isHigh, sameMark, hasSides, twoSided, lowSide}
 use Rattle.rules.specs.Planning.{greedy, draw, drawnPlace, swapped, stateAfter, tried, round, rounds, improved}
-use Rattle.rules.specs.Floor.{leastGuard, floor}
+use Rattle.rules.specs.Floor.{walk, leastOrder, shortest, floor, leastGuard, coarseFloor}
 use Rattle.rules.specs.Text.{bytes, then, word, isDigit, isLabelByte, run, label, isPlain, valueFrom, number, spell, numeral}
 use Rattle.rules.specs.Sheet.{isRow, find, bytesFrom, putRow, follow, lines, lastField, countLine, pathLine, guardLine, pathMeans, pathStep, guardCell, guardMeans, guardStep, startMeans, startStep, counted, after, ended, startsPart, guardsPart, sheetFrom}
 use Rattle.rules.specs.Writing.{labelOf, badLabel, labelTwice, isPair, pairs, hasPlan, joinFrom, countText, pathText, guardText, pathsText, guardsText, startsText, sheetText}
@@ -90,9 +90,9 @@ figures :
     ∷ (1015568748 ∷ 1586005467 ∷ 0 ∷ 1 ∷ 0 ∷ 0 ∷ 10 ∷ 1 ∷ 2 ∷ 0 ∷ 1 ∷ 4 ∷ 7 ∷ 1 ∷ [])
     ∷ (0 ∷ 0 ∷ 0 ∷ 8 ∷ 1 ∷ 1 ∷ [])
     ∷ (0x3C6EF35F ∷ 0x47502932 ∷ 0 ∷ 1 ∷ [])
-    ∷ (9 ∷ [])
+    ∷ (10 ∷ [])
     ∷ []
-unfolding withGuard widthsT guardsT netT three packedRow pressedRow plannedRow judgedRow packT greedyT judgeTwo draws cleared first found firstRow foundPair largest least sum highest isLower short tooClose placed reach lowest packed height picked choose arranged pressed touches opposite marks isHigh sameMark hasSides twoSided lowSide draw drawnPlace swapped stateAfter tried round rounds improved leastGuard floor refuseIf _orElse_ scan square countFault sizeFault orderFault startFault clashFault sidesFault roundsFault listFault networkFault networkSizes lentFault planSizes judgeFault packFault twoSidesFault planFault improveFault floorFault unless judging refusedPacked donePacked packing refusedPressed donePressed pressing siding refusedPlanned donePlanned doneImproved improving flooring
+unfolding withGuard widthsT guardsT netT three packedRow pressedRow plannedRow judgedRow packT greedyT judgeTwo draws cleared first found firstRow foundPair largest least sum highest isLower short tooClose placed reach lowest packed height picked choose arranged pressed touches opposite marks isHigh sameMark hasSides twoSided lowSide draw drawnPlace swapped stateAfter tried round rounds improved walk leastOrder shortest floor refuseIf _orElse_ scan square countFault sizeFault orderFault startFault clashFault sidesFault roundsFault listFault networkFault networkSizes lentFault planSizes judgeFault packFault twoSidesFault planFault improveFault floorFault unless judging refusedPacked donePacked packing refusedPressed donePressed pressing siding refusedPlanned donePlanned doneImproved improving flooring
 figures = refl
 
 -- how many slots short plans of T are, judged: the two that start together, where the lower number is the
@@ -110,6 +110,25 @@ shorts :
     ∷ (8 ∷ 1 ∷ 3 ∷ 0 ∷ 5 ∷ 5 ∷ 20 ∷ []) ∷ []
 unfolding withGuard widthsT guardsT netT three pressedRow judgedRow cleared first found firstRow foundPair largest highest isLower short tooClose placed reach lowest packed picked choose arranged pressed refuseIf _orElse_ scan square countFault sizeFault startFault clashFault networkFault networkSizes lentFault judgeFault unless judging refusedPressed donePressed pressing
 shorts = refl
+
+-- four paths of width 1: the guard of 0 and any other is 0, that of any other two 5
+unfoldable pub netStar : Lent
+netStar = lend (1 ∷ 1 ∷ 1 ∷ 1 ∷ replicate 124 0) (withGuard 0 1 0 (withGuard 0 2 0 (withGuard 0 3 0 (withGuard 1 2 5 (withGuard 1 3 5 (withGuard 2 3 5 (cleared 16384 255)))))))
+
+-- floors: the paths of T in other orders, two of them and one alone; four paths, of which two that are not 0
+-- have to be neighbours. After each network the coarse floor of the same paths
+floors :
+    (flooring 3 netT (1 ∷ 2 ∷ 0 ∷ []) .floor
+    ∷ flooring 3 netT (2 ∷ 0 ∷ 1 ∷ []) .floor
+    ∷ flooring 3 netT (2 ∷ 1 ∷ []) .floor
+    ∷ flooring 3 netT (1 ∷ []) .floor
+    ∷ coarseFloor (netOf netT) (at (0 ∷ 1 ∷ 2 ∷ [])) 3
+    ∷ flooring 4 netStar (0 ∷ 1 ∷ 2 ∷ 3 ∷ []) .floor
+    ∷ coarseFloor (netOf netStar) (at (0 ∷ 1 ∷ 2 ∷ 3 ∷ [])) 4
+    ∷ [])
+    ≡ 10 ∷ 10 ∷ 9 ∷ 4 ∷ 9 ∷ 9 ∷ 4 ∷ []
+unfolding withGuard widthsT guardsT netT netStar cleared first found firstRow foundPair least sum placed walk leastOrder shortest floor leastGuard coarseFloor refuseIf _orElse_ scan square countFault sizeFault listFault networkFault networkSizes lentFault floorFault unless flooring
+floors = refl
 
 -- the worked example of the plan program, and a sheet that is refused
 worked : List ℕ

@@ -64,7 +64,7 @@ weigh-all f P (suc n) h = rw (h n (omega arith)) (omega (arith, weigh-all f P n 
 abbrev pub count : (ℕ → Bool) → ℕ → ℕ
 count P n = weigh (λ k. 1) P n
 
-count-le : (P : ℕ → Bool) (n : ℕ) → count P n ≤ n
+pub count-le : (P : ℕ → Bool) (n : ℕ) → count P n ≤ n
 unfolding weigh
 count-le P zero = omega arith
 count-le P (suc n) = go (P n) (count-le P n)

@@ -149,16 +149,44 @@ unfolding least
 least-ge d f zero x l h = l
 least-ge d f (suc n) x l h = omega (arith, least-ge d f n x l (λ k g. h k (omega arith)), h n (omega arith))
 
+pub least-same : (d : ℕ) (f g : ℕ → ℕ) (n : ℕ) → ((k : ℕ) → k < n → f k ≡ g k) → least d f n ≡ least d g n
+unfolding least
+least-same d f g zero h = refl
+least-same d f g (suc n) h = rw (least-same d f g n (λ k l. h k (omega arith)), h n (omega arith))
+
+-- it is reached, or no number is below the one given
+pub least-at : (d : ℕ) (f : ℕ → ℕ) (n : ℕ) → (least d f n ≡ d) ⊎ ((i : ℕ) × (i < n) × (least d f n ≡ f i))
+unfolding least
+least-at d f zero = inl refl
+least-at d f (suc n) = go (decLt (f n) (least d f n)) (least-at d f n)
+  where
+    go : Dec (f n < least d f n) → (least d f n ≡ d) ⊎ ((i : ℕ) × (i < n) × (least d f n ≡ f i))
+        → (min (least d f n) (f n) ≡ d) ⊎ ((i : ℕ) × (i < suc n) × (min (least d f n) (f n) ≡ f i))
+    go (yes l) h = inr (n, omega arith, omega arith)
+    go (no l) (inl e) = inl (omega arith)
+    go (no l) (inr (i, h, e)) = inr (i, omega arith, omega arith)
+
 -- the sum
 pub sum-ge : (f : ℕ → ℕ) (a k : ℕ) → ((i : ℕ) → i < k → a ≤ f i) → k * a ≤ sum f k
 unfolding sum
 sum-ge f a zero h = omega arith
 sum-ge f a (suc k) h = omega (arith, sum-ge f a k (λ i l. h i (omega arith)), h k (omega arith))
 
+pub sum-le : (f : ℕ → ℕ) (a k : ℕ) → ((i : ℕ) → i < k → f i ≤ a) → sum f k ≤ k * a
+unfolding sum
+sum-le f a zero h = omega arith
+sum-le f a (suc k) h = omega (arith, sum-le f a k (λ i l. h i (omega arith)), h k (omega arith))
+
 pub sum-same : (f g : ℕ → ℕ) (n : ℕ) → ((k : ℕ) → k < n → f k ≡ g k) → sum f n ≡ sum g n
 unfolding sum
 sum-same f g zero h = refl
 sum-same f g (suc n) h = omega (arith, sum-same f g n (λ k l. h k (omega arith)), h n (omega arith))
+
+-- the first apart from the rest
+pub sum-front : (f : ℕ → ℕ) (n : ℕ) → sum f (suc n) ≡ f 0 + sum (λ i. f (suc i)) n
+unfolding sum
+sum-front f zero = omega arith
+sum-front f (suc n) = omega (arith, sum-front f n)
 
 -- ones among the first i alone add up to at most i; ones at each of the first i, to i at least
 sum-all : (f : ℕ → ℕ) (m : ℕ) → ((j : ℕ) → f j ≤ 1) → sum f m ≤ m

@@ -1,0 +1,6 @@
+-- the list's guards
+pub mod Square
+-- the least walks by sets
+pub mod Sets
+pub mod Walked
+pub mod Filled
