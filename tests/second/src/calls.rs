@@ -270,6 +270,7 @@ pub fn better(n: usize, widths: &[u16], guards: &[u8], first: &[u8], second: &[u
     }
 }
 
+/// RULES 12.
 pub fn floor(n: usize, widths: &[u16], guards: &[u8], list: &[u8]) -> Answer {
     let run = || {
         sizes(&[(widths.len(), PATHS), (guards.len(), CELLS)])?;

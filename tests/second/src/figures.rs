@@ -282,10 +282,157 @@ fn p9_draws() {
     assert_eq!(rules::place_of(0x4750_2932, 4), 1);
 }
 
+/// The floor of a list, by tables, the list handed in in every order.
+fn floor_in_any_order(widths: &[u16], conflicts: &[(usize, usize, u8)], list: &[u8]) -> usize {
+    let n = widths.len();
+    let (widths, guards) = tables(widths, conflicts);
+    let mut floors = Vec::new();
+    rules::each_order(&mut list.to_vec(), 0, &mut |list| {
+        floors.push(calls::floor(n, &widths, &guards, list));
+    });
+    let floor = floors[0];
+    assert!(floors.iter().all(|other| *other == floor));
+    assert_eq!((floor.number, floor.place), (0, 0));
+    floor.more[0]
+}
+
+/// Widths 2, 4, 3 and the walk 1, 0, 2 over the guards 1 and 0; it was 9 by twice the guard 0.
 #[test]
 fn p10_floor() {
     let (widths, guards) = t_tables();
-    assert_eq!(calls::floor(3, &widths, &guards, &[0, 1, 2]), Answer::done(9, 0));
+    assert_eq!(calls::floor(3, &widths, &guards, &[0, 1, 2]), Answer::done(10, 0));
+    let conflicts = [(0, 1, 1), (1, 2, 2), (0, 2, 0)];
+    assert_eq!(floor_in_any_order(&[2, 4, 3], &conflicts, &[0, 1, 2]), 10);
+    assert_eq!(brute::floor_by_least_guard(&t(), &[0, 1, 2]), 9);
+}
+
+/// Worked by hand: one path is its width, two are their widths and guard, whatever else there is.
+#[test]
+fn floor_of_one_or_two() {
+    let conflicts = [(0, 1, 1), (1, 2, 2), (0, 2, 0)];
+    let of = |list: &[u8]| floor_in_any_order(&[2, 4, 3], &conflicts, list);
+    assert_eq!([of(&[0]), of(&[1]), of(&[2])], [2, 4, 3]);
+    assert_eq!([of(&[0, 1]), of(&[1, 2]), of(&[0, 2])], [2 + 1 + 4, 4 + 2 + 3, 2 + 3]);
+    assert_eq!(floor_in_any_order(&[64], &[], &[0]), 64);
+    assert_eq!(floor_in_any_order(&[64, 64], &[(0, 1, 32)], &[0, 1]), 160);
+}
+
+/// Worked by hand: three paths have three guards, and the largest one is left out. So the least one
+/// does not come twice.
+#[test]
+fn floor_of_three() {
+    let of = |guards: [u8; 3]| {
+        let [a, b, c] = guards;
+        floor_in_any_order(&[5, 1, 3], &[(0, 1, a), (0, 2, b), (1, 2, c)], &[0, 1, 2])
+    };
+    assert_eq!(of([4, 7, 9]), 9 + 4 + 7);
+    assert_eq!(of([9, 4, 7]), 9 + 4 + 7);
+    assert_eq!(of([7, 9, 4]), 9 + 4 + 7);
+    assert_eq!(of([0, 32, 32]), 9 + 32);
+    assert_eq!(of([0, 0, 32]), 9);
+}
+
+/// Worked by hand. Two pairs: one bridge of 5 has to be crossed. One centre, path 2: only two of its
+/// three guards of 1 can be used. And guards 1, 2, 3 from 0 to 3, where going on from 0 to 1, the
+/// nearest, leads to 1 + 9 + 4, while 1, 0, 2, 3 is 1 + 2 + 4.
+#[test]
+fn floor_of_four() {
+    let of = |guards: [u8; 6]| {
+        let [a, b, c, d, e, f] = guards;
+        let conflicts = [(0, 1, a), (0, 2, b), (0, 3, c), (1, 2, d), (1, 3, e), (2, 3, f)];
+        floor_in_any_order(&[1, 2, 3, 4], &conflicts, &[0, 1, 2, 3])
+    };
+    assert_eq!(of([0, 5, 5, 5, 5, 0]), 10 + 5);
+    assert_eq!(of([10, 1, 10, 1, 10, 1]), 10 + 1 + 1 + 10);
+    assert_eq!(of([1, 2, 3, 9, 9, 4]), 10 + 7);
+}
+
+/// Worked by hand: low guards, 7 in all, from each path to the next of 3, 6, 0, 5, 1, 7, 2, 4, and
+/// 30 elsewhere. The old floor had no guard at all.
+#[test]
+fn floor_of_eight_in_a_line() {
+    let line = [3, 6, 0, 5, 1, 7, 2, 4];
+    let low = [1, 0, 2, 0, 1, 0, 3];
+    let guard = |i: usize, j: usize| {
+        let pair = line.windows(2).position(|two| two == [i, j] || two == [j, i]);
+        pair.map_or(30, |step| low[step])
+    };
+    let mut conflicts = Vec::new();
+    (0..8).for_each(|j| conflicts.extend((0..j).map(|i| (i, j, guard(i, j)))));
+    let (widths, guards) = tables(&[1, 2, 3, 4, 5, 6, 7, 8], &conflicts);
+    for turn in 0..8 {
+        let mut list = [0, 1, 2, 3, 4, 5, 6, 7];
+        list.rotate_left(turn);
+        assert_eq!(calls::floor(8, &widths, &guards, &list), Answer::done(36 + 7, 0));
+        list.reverse();
+        assert_eq!(calls::floor(8, &widths, &guards, &list), Answer::done(36 + 7, 0));
+    }
+    let net = Network::of(&[1, 2, 3, 4, 5, 6, 7, 8], &conflicts);
+    assert_eq!(brute::floor_by_least_guard(&net, &[0, 1, 2, 3, 4, 5, 6, 7]), 36);
+}
+
+/// Refused as before: the length, then the first entry at fault.
+#[test]
+fn floor_refused() {
+    let (widths, mut guards) = t_tables();
+    let of = |guards: &[u8], list: &[u8]| calls::floor(3, &widths, guards, list);
+    assert_eq!(of(&guards, &[]), refused(15, 0));
+    assert_eq!(of(&guards, &[0, 1, 2, 0, 1, 2, 0, 1, 2]), refused(15, 0));
+    assert_eq!(of(&guards, &[0, 1, 2, 3]), refused(15, 3));
+    assert_eq!(of(&guards, &[0, 2, 2, 3]), refused(15, 2));
+    (guards[cell(0, 2)], guards[cell(2, 0)]) = (NONE, NONE);
+    assert_eq!(of(&guards, &[0, 1, 2]), refused(15, 2));
+    assert_eq!(of(&guards, &[0, 2, 1]), refused(15, 1));
+    assert_eq!(of(&guards, &[1, 2]), Answer::done(9, 0));
+}
+
+/// All guards 0 to 2 and widths 1 to 2 of four paths that are all in conflict.
+fn four_in_conflict() -> impl Iterator<Item = Network> {
+    (0..729 * 16).map(|number| {
+        let widths = [0, 1, 2, 3].map(|path| 1 + (number >> path & 1));
+        let guard = |power: u32| (number / 16 / 3_usize.pow(power) % 3) as u8;
+        let pairs = [(0, 1), (0, 2), (0, 3), (1, 2), (1, 3), (2, 3)];
+        let conflicts: Vec<_> = (0..).zip(pairs).map(|(at, (i, j))| (i, j, guard(at))).collect();
+        Network::of(&widths, &conflicts)
+    })
+}
+
+/// By orders as by sets, never below the old floor and never above the best plan.
+#[test]
+fn floors_by_orders_and_by_sets() {
+    let mut higher = 0;
+    for net in four_in_conflict() {
+        for list in [&[2][..], &[3, 0], &[1, 3, 2], &[0, 1, 2, 3]] {
+            let floor = rules::floor(&net, list);
+            assert_eq!(floor, brute::floor_by_sets(&net, list));
+            let old = brute::floor_by_least_guard(&net, list);
+            assert!(old <= floor && floor <= brute::best_by_orders(&net.part(list)));
+            higher += usize::from(old < floor);
+        }
+    }
+    assert!(higher > 0);
+}
+
+/// Where no guard reaches past a path in between, the floor of all paths is the best highest slot,
+/// by all orders and by all plans. Where one does, it may be lower.
+#[test]
+fn floor_and_best_plan() {
+    let (mut reached, mut below) = (0, 0);
+    for net in four_in_conflict() {
+        let (floor, best) = (rules::floor(&net, &[0, 1, 2, 3]), brute::best_by_orders(&net));
+        if brute::only_neighbours_push(&net) {
+            assert_eq!(floor, best);
+            reached += 1;
+            if best <= 8 {
+                assert_eq!(brute::best_by_plans(&net), best);
+            }
+        } else {
+            below += usize::from(floor < best);
+        }
+    }
+    assert!(reached > 0 && below > 0);
+    let past = Network::of(&[1, 1, 1], &[(0, 1, 0), (1, 2, 0), (0, 2, 2)]);
+    assert_eq!((rules::floor(&past, &[0, 1, 2]), brute::best_by_plans(&past)), (3, 4));
 }
 
 /// The widest paths, run.
@@ -430,13 +577,15 @@ fn the_longest_sheet() {
     assert_eq!(got, refused(16, 0));
 }
 
-/// 001 Table II: the guard is the number of links in common; the best plan has 13 slots.
+/// 001 Table II: the guard is the number of links in common; the best plan has 13 slots,
+/// and the floor says so.
 #[test]
 fn table_two_of_001() {
     let conflicts = [(0, 1, 1), (0, 2, 1), (0, 3, 2), (1, 2, 1), (1, 3, 2), (2, 3, 2)];
     let net = Network::of(&[3, 2, 3, 1], &conflicts);
     assert_eq!(brute::best_by_orders(&net), 13);
     assert_eq!(brute::best_by_plans(&net), 13);
+    assert_eq!(rules::floor(&net, &[0, 1, 2, 3]), 13);
 }
 
 /// 000 Theorem 2.3.1: one guard and one width on a graph of chromatic number k give the best
@@ -494,11 +643,13 @@ fn groetzsch_graph() {
     one_guard_one_width(11, &edges, 4, false);
 }
 
-/// Theorem 6's ratio fails: greedy from the first path reaches 60, the best plan has 36.
+/// Theorem 6's ratio fails: greedy from the first path reaches 60, the best plan has 36, and
+/// the floor says so.
 #[test]
 fn greedy_against_best() {
     let conflicts = [(0, 1, 24), (0, 2, 8), (0, 3, 8), (1, 2, 16), (1, 3, 32), (2, 3, 16)];
     let net = Network::of(&[1; 4], &conflicts);
     assert_eq!(brute::best_by_orders(&net), 36);
     assert_eq!(brute::best_by_plans(&net), 36);
+    assert_eq!(rules::floor(&net, &[0, 1, 2, 3]), 36);
 }

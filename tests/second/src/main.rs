@@ -36,7 +36,7 @@ second [--seed S] [--minutes M] [--only CALL,..] [--groups GROUP,..] [--threads 
   --only        calls to compare: judge pack press two_sides plan improve better floor why read
                 write program ask (default: all)
   --groups      groups to run: exhaustive sizes small large rounds faults sheets program clashes
-                chains ask
+                chains ask floors
   --threads T   threads (default: as many as there are processors)
   --trace       names each call and its case before it is made (for a library that crashes)
 second --print [WORD ..]  prints what the plan program has to print for standard input, or with

@@ -50,7 +50,6 @@ impl Network {
     }
 
     /// A network by hand: the widths, and the conflicts with their guards.
-    #[cfg(test)]
     pub fn of(widths: &[usize], conflicts: &[(usize, usize, u8)]) -> Network {
         let mut guards = vec![vec![None; widths.len()]; widths.len()];
         for &(i, j, guard) in conflicts {
@@ -58,6 +57,15 @@ impl Network {
             guards[j][i] = Some(guard);
         }
         Network { widths: widths.to_vec(), guards }
+    }
+
+    /// The network of some of the paths alone, numbered as they are listed.
+    pub fn part(&self, paths: &[usize]) -> Network {
+        let row = |&i: &usize| paths.iter().map(|&j| self.guards[i][j]).collect();
+        Network {
+            widths: paths.iter().map(|&i| self.widths[i]).collect(),
+            guards: paths.iter().map(row).collect(),
+        }
     }
 
     pub fn paths(&self) -> usize {

@@ -186,15 +186,30 @@ pub fn plan(net: &Network, seed: u32, rounds: usize) -> Improved {
     }
 }
 
-/// RULES 12.
+/// RULES 12: the widths of the list, and the least that the guards from each path to the next one
+/// add up to over all orders of the list.
 pub fn floor(net: &Network, list: &[usize]) -> usize {
     let widths: usize = list.iter().map(|&p| net.width(p)).sum();
-    let mut least = None;
-    for (position, &path) in list.iter().enumerate() {
-        for &earlier in &list[..position] {
-            let guard = net.guard(path, earlier).expect("the list is all in conflict");
-            least = Some(least.map_or(guard, |l: usize| l.min(guard)));
-        }
+    let mut least = usize::MAX;
+    each_order(&mut list.to_vec(), 0, &mut |order| least = least.min(walk(net, order)));
+    widths + least
+}
+
+/// The guards from each path of an order to the next one, added. One path alone has none.
+fn walk(net: &Network, order: &[usize]) -> usize {
+    let guard = |two: &[usize]| net.guard(two[0], two[1]).expect("the list is all in conflict");
+    order.windows(2).map(guard).sum()
+}
+
+/// Shows every order of a list that begins with its first `fixed` entries: each other entry has its
+/// turn as the next one. Afterwards the list is as it was.
+pub fn each_order<T>(list: &mut [T], fixed: usize, show: &mut dyn FnMut(&[T])) {
+    if fixed == list.len() {
+        return show(list);
     }
-    widths + (list.len() - 1) * least.unwrap_or(0)
+    for next in fixed..list.len() {
+        list.swap(fixed, next);
+        each_order(list, fixed + 1, show);
+        list.swap(fixed, next);
+    }
 }

@@ -1,18 +1,25 @@
 //! All networks of up to 3 paths with widths 1 to 2 and guards none, 0 and 1: every order, the
-//! wrong ones too, every small plan, every short list, through all calls.
+//! wrong ones too, every small plan, every short list, through all calls. All networks of 4 paths,
+//! each two in conflict, with guards 0 to 2: every short list.
 
 use crate::brute;
 use crate::compare::{self, Call, Case, Tally};
 use crate::gen::{self, Rng};
-use crate::groups::{chains, clashes};
+use crate::groups::{chains, clashes, floors};
 use crate::net::*;
+use std::collections::BTreeMap;
 
-/// One piece for each network: 2 of one path, 12 of two, 216 of three.
-pub const PIECES: usize = 2 + 4 * 3 + 8 * 27;
+/// Networks of up to three paths: 2 of one path, 12 of two, 216 of three.
+const SMALL: usize = 2 + 4 * 3 + 8 * 27;
+/// One piece for each network; four paths that are all in conflict have six guards.
+pub const PIECES: usize = SMALL + 729;
 
 pub fn piece(t: &mut Tally, _: &mut Rng, number: usize) {
-    let c = network(number);
     t.cases += 1;
+    if number >= SMALL {
+        return lists(t, &four_in_conflict(number - SMALL));
+    }
+    let c = network(number);
     plans(t, &c);
     orders(t, &c);
     lists(t, &c);
@@ -34,6 +41,19 @@ fn network(number: usize) -> Case {
     for i in 0..n {
         for j in i + 1..n {
             gen::set_guard(&mut c, i, j, [NONE, 0, 1][rest % 3]);
+            rest /= 3;
+        }
+    }
+    c
+}
+
+/// Four paths with guards 0 to 2. Each set of them has other widths in sum.
+fn four_in_conflict(number: usize) -> Case {
+    let (mut c, mut rest) = (tables(4), number);
+    c.widths[..4].copy_from_slice(&[1, 2, 4, 8]);
+    for i in 0..4 {
+        for j in i + 1..4 {
+            gen::set_guard(&mut c, i, j, (rest % 3) as u8);
             rest /= 3;
         }
     }
@@ -118,12 +138,21 @@ fn orders(t: &mut Tally, c: &Case) {
     }
 }
 
-/// The floor of every list of up to four entries 0 to n.
+/// The floor of every list of up to four entries 0 to n. Lists of the same paths have the same.
 fn lists(t: &mut Tally, c: &Case) {
+    let (net, mut c) = (c.network(), floors::bare(c));
+    let mut known = BTreeMap::new();
     for length in 0..=4 {
         for list in digits(c.n + 1, length) {
-            let list = list.iter().map(|&p| p as u8).collect();
-            compare::floor(t, &Case { list, ..c.clone() });
+            c.list = list.iter().map(|&p| p as u8).collect();
+            let Some(floor) = floors::told(t, &c, &net) else { continue };
+            floors::by_best_plan(t, &c, &net, floor);
+            let mut set = list;
+            set.sort_unstable();
+            if let Some(other) = known.insert(set, floor) {
+                let same = floor == other;
+                t.check_of(Call::Floor, "the floor is one in any order", &c, same);
+            }
         }
     }
 }

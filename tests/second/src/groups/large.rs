@@ -1,9 +1,10 @@
 //! Larger networks, up to 128 paths, from sparse to full, two-sided ones and odd rings among
 //! them, with rounds from none to 10,000.
 
+use crate::brute;
 use crate::compare::{self, Call, Case, Tally};
 use crate::gen::{self, Rng, Shape, SHAPES};
-use crate::groups::chains;
+use crate::groups::{chains, floors};
 use crate::net::*;
 
 pub const PIECES: usize = 600;
@@ -42,10 +43,7 @@ fn calls(t: &mut Tally, rng: &mut Rng, c: &Case) {
             compare::why(t, &planned);
         }
     }
-    for _ in 0..2 {
-        compare::floor(t, &Case { list: gen::list(rng, c), ..c.clone() });
-        compare::floor(t, &Case { list: gen::any_list(rng, c), ..c.clone() });
-    }
+    flooring(t, rng, c);
     made_plans(t, c);
     reverse(t, c);
     // Starts at the limit: 001's validity needs ends beyond 16,384.
@@ -53,6 +51,21 @@ fn calls(t: &mut Tally, rng: &mut Rng, c: &Case) {
     compare::judge(t, &far);
     compare::press(t, &far);
     reasons(t, &mut rng.aside(), c, &far);
+}
+
+/// Lists that are right, which the plan of the case reaches, and lists with anything in them.
+fn flooring(t: &mut Tally, rng: &mut Rng, c: &Case) {
+    let net = c.network();
+    let reached = brute::last_slot(&net, &c.plan());
+    let mut c = floors::bare(c);
+    for _ in 0..2 {
+        c.list = gen::list(rng, &c);
+        if let Some(floor) = floors::told(t, &c, &net) {
+            t.check_of(Call::Floor, "a valid plan reaches every floor", &c, floor <= reached);
+        }
+        c.list = gen::any_list(rng, &c);
+        floors::told(t, &c, &net);
+    }
 }
 
 /// A path of the packed and of the pressed plan; of the loose and of the far one the path that

@@ -6,6 +6,7 @@ pub mod chains;
 pub mod clashes;
 pub mod exhaustive;
 pub mod faults;
+pub mod floors;
 pub mod large;
 pub mod program;
 pub mod rounds;
@@ -25,7 +26,7 @@ pub struct Group {
     pub piece: fn(&mut Tally, &mut Rng, usize),
 }
 
-pub const GROUPS: [Group; 11] = [
+pub const GROUPS: [Group; 12] = [
     Group {
         name: "exhaustive",
         counts: "networks",
@@ -97,4 +98,11 @@ pub const GROUPS: [Group; 11] = [
         piece: chains::piece,
     },
     Group { name: "ask", counts: "runs", pieces: ask::PIECES, random: true, piece: ask::piece },
+    Group {
+        name: "floors",
+        counts: "cases",
+        pieces: floors::PIECES,
+        random: true,
+        piece: floors::piece,
+    },
 ];

@@ -4,7 +4,7 @@
 use crate::brute;
 use crate::compare::{self, Call, Case, Outcome, Tally};
 use crate::gen::{self, Rng, Shape, SHAPES};
-use crate::groups::{chains, clashes};
+use crate::groups::{chains, clashes, floors};
 use crate::net::*;
 use crate::rules;
 
@@ -26,7 +26,7 @@ pub fn piece(t: &mut Tally, rng: &mut Rng, _: usize) {
         sides(t, &c, &net, best);
         planning(t, &c, &net, best);
         improving(t, &c, &net);
-        floors(t, rng, &c, best);
+        flooring(t, rng, &c, &net, best);
         sheets(t, &c);
         reasons(t, &mut rng.aside(), &c, &net);
     }
@@ -170,14 +170,19 @@ fn improving(t: &mut Tally, c: &Case, net: &Network) {
 }
 
 /// Every valid plan reaches a floor (RULES 12).
-fn floors(t: &mut Tally, rng: &mut Rng, c: &Case, best: usize) {
+fn flooring(t: &mut Tally, rng: &mut Rng, c: &Case, net: &Network, best: usize) {
+    let mut c = floors::bare(c);
     for _ in 0..3 {
-        let c = Case { list: gen::list(rng, c), ..c.clone() };
-        if let Some(got) = compare::floor(t, &c) {
-            t.check("a list in conflict has a floor", &c, got.answer.number == 0);
-            t.check("no floor is above the best", &c, got.answer.more[0] <= best);
+        c.list = gen::list(rng, &c);
+        if let Some(floor) = floors::told(t, &c, net) {
+            t.check_of(Call::Floor, "no floor is above the best", &c, floor <= best);
+            if c.list.len() == c.n && brute::only_neighbours_push(net) {
+                let reached = floor == best;
+                t.check_of(Call::Floor, "the floor of all paths is the best", &c, reached);
+            }
         }
-        compare::floor(t, &Case { list: gen::any_list(rng, &c), ..c });
+        c.list = gen::any_list(rng, &c);
+        floors::told(t, &c, net);
     }
 }
 
