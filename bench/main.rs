@@ -9,9 +9,9 @@ mod rules;
 mod sheet;
 mod turns;
 
-use nesbrunka::{CELLS, PAIRS_MOST, PATHS, SHEET_MOST};
+use nesbrunka::{CELLS, NO_CONFLICT, PAIRS_MOST, PATHS, SHEET_MOST};
 use networks::{longest, pairs, Network, Random, PERCENTS, SIZES};
-use rules::{look_back, push, Order, Packer, Starts};
+use rules::{all_orders, by_sets, look_back, push, Order, Packer, Starts, Walker};
 use std::hint::black_box;
 use std::time::Instant;
 use turns::{done, median, ratios};
@@ -161,6 +161,60 @@ fn planning(random: &mut Random) -> f64 {
     ratios(101, [plan, rounds])[1]
 }
 
+/// A list of so many paths of a network in which all are in conflict, with any guards or equal ones:
+/// the floor by all orders of the list, and by the same sets in Rust.
+fn flooring(n: usize, k: usize, equal: bool, random: &mut Random) -> [f64; 2] {
+    let mut net = Network::new(n, pairs(n, 100), random);
+    if equal {
+        net.guards.iter_mut().filter(|guard| **guard != NO_CONFLICT).for_each(|guard| *guard = 7);
+    }
+    let lists: Vec<&[u8]> = net.orders.iter().map(|order| &order[..k]).collect();
+    for list in &lists {
+        let found = [all_orders, by_sets].map(|search| rules::floor(search, &net, list));
+        assert!(found == [library::floor(&net, list); 2], "the floors differ");
+    }
+    let all = |floor: &dyn Fn(&[u8]) -> usize, times: usize| {
+        for list in (0..times).flat_map(|_| &lists) {
+            black_box(floor(black_box(list)));
+        }
+    };
+    // Eight paths have 40,320 orders.
+    let times = [1000, 1000, 300, 100, 30, 10, 1, 1][k - 1] / (1 + n / 40) + 1;
+    let called = |list: &[u8]| library::floor(black_box(&net), list);
+    let found = [all_orders as Walker, by_sets].map(|search| {
+        let plain = |list: &[u8]| rules::floor(search, black_box(&net), list);
+        ratios(31, [&mut || all(&called, times), &mut || all(&plain, times)])[1]
+    });
+    found
+}
+
+/// The lists whose floors are measured.
+const LISTS: [(&str, usize, bool); 6] = [
+    ("one path", 1, false),
+    ("two paths", 2, false),
+    ("four paths, any guards", 4, false),
+    ("five paths, any guards", 5, false),
+    ("eight paths, any guards", 8, false),
+    ("eight paths, equal guards", 8, true),
+];
+
+/// Prints the table of floors; the most that eight paths take of all orders.
+fn floors(random: &mut Random) -> f64 {
+    println!("| floor, with its tests / all orders, the same sets in Rust | n = 8 | n = 128 |");
+    println!("|---|---|---|");
+    let mut most: f64 = 0.0;
+    for (title, k, equal) in LISTS {
+        let found = [8, 128].map(|n| flooring(n, k, equal, random));
+        let cell = |ratios: [f64; 2]| ratios.map(|ratio| format!("{ratio:.3}")).join(", ");
+        println!("| {title} | {} |", found.map(cell).join(" | "));
+        if k == 8 {
+            most = found.iter().map(|ratios| ratios[0]).fold(most, f64::max);
+        }
+    }
+    println!();
+    most
+}
+
 /// The longest sheet: reading and writing it.
 fn sheets(random: &mut Random) -> [f64; 2] {
     let t = longest(random);
@@ -234,6 +288,7 @@ fn main() {
     }
     let [reading, writing] = sheets(random);
     println!("\nThe longest sheet: reading {reading:.2}, writing {writing:.2} of plain Rust.\n");
+    let floor = floors(random);
     let half = found[2][1];
     goal("pack, 128 paths, 50 %", 0.25, half[1]);
     goal("pack without its tests, 128 paths, 50 %", 1.2, half[2]);
@@ -241,6 +296,7 @@ fn main() {
     goal("why by judging the same plan, the worst of all", 1.3, worst);
     goal("improve by looking back, 128 paths, 50 %", 0.1, half[6]);
     goal("improve by the same loop, 128 paths, 50 %", 1.2, half[7]);
+    goal("the floor of eight paths by all orders, the worst of all", 0.2, floor);
     goal("the plan program, dense sheet of 128 paths", 0.25, dense_found[2]);
     goal("reading and writing the longest sheet", 1.5, reading.max(writing));
     goal("planning a line of 128 paths / 1,000 rounds at 50 %", 0.05, planning(random));

@@ -1,6 +1,6 @@
 //! The calls in plain Rust: what the library's are held against.
 
-use nesbrunka::{NO_CONFLICT, PATHS};
+use nesbrunka::{LIST_MOST, NO_CONFLICT, PATHS};
 
 use crate::networks::Network;
 
@@ -9,26 +9,33 @@ pub type Order = [u8; PATHS];
 pub type Judgement = (usize, usize, usize);
 pub type Packer = fn(&Network, &Order, &mut Starts) -> usize;
 
-/// The tests of judging by plain scans, each from the lowest index: number, place, slots short.
-pub fn judge(net: &Network, starts: &Starts) -> Judgement {
+/// The tests of a network by plain scans, each from the lowest index: number and place.
+fn network(net: &Network) -> Option<(usize, usize)> {
     let n = net.n;
     let guard = |i: usize, j: usize| net.guards[PATHS * i + j];
     if !(1..=PATHS).contains(&n) {
-        return (1, 0, 0);
+        return Some((1, 0));
     }
     if let Some(k) = net.widths[..n].iter().position(|width| !(1..=64).contains(width)) {
-        return (3, k, 0);
+        return Some((3, k));
     }
     let bad = |i, j| guard(i, j) != NO_CONFLICT && (i == j || guard(i, j) > 32);
     if let Some(cell) = first_cell(n, |_| 0, bad) {
-        return (4, cell, 0);
+        return Some((4, cell));
     }
-    if let Some(cell) = first_cell(n, |i| i + 1, |i, j| guard(i, j) != guard(j, i)) {
-        return (5, cell, 0);
+    first_cell(n, |i| i + 1, |i, j| guard(i, j) != guard(j, i)).map(|cell| (5, cell))
+}
+
+/// The tests of judging: number, place, slots short.
+pub fn judge(net: &Network, starts: &Starts) -> Judgement {
+    let n = net.n;
+    if let Some((number, place)) = network(net) {
+        return (number, place, 0);
     }
     if let Some(k) = starts[..n].iter().position(|start| !(1..=16384).contains(start)) {
         return (7, k, 0);
     }
+    let guard = |i: usize, j: usize| net.guards[PATHS * i + j];
     let close = |i, j| guard(i, j) != NO_CONFLICT && short(net, starts, i, j) > 0;
     first_cell(n, |i| i + 1, close)
         .map_or((0, 0, 0), |cell| (8, cell, short(net, starts, cell / PATHS, cell % PATHS)))
@@ -157,4 +164,65 @@ pub fn improve(pack: Packer, net: &Network, order: &Order, rounds: usize) -> Imp
     }
     pack(net, &order, &mut starts);
     (order, starts, highest, kept)
+}
+
+/// The guards of a list, by position.
+type Square = [[u8; LIST_MOST]; LIST_MOST];
+/// The shortest walk through the first so many positions of a square.
+pub type Walker = fn(&Square, usize) -> usize;
+
+/// The floor of a list, with its tests and either search.
+pub fn floor(shortest: Walker, net: &Network, list: &[u8]) -> usize {
+    assert!(network(net).is_none() && listed(net, list), "floor: refused");
+    let mut square = [[NO_CONFLICT; LIST_MOST]; LIST_MOST];
+    for (row, &i) in square.iter_mut().zip(list) {
+        for (guard, &j) in row.iter_mut().zip(list) {
+            *guard = net.guards[PATHS * i as usize + j as usize];
+        }
+    }
+    let widths: usize = list.iter().map(|&k| net.widths[k as usize] as usize).sum();
+    widths + shortest(&square, list.len())
+}
+
+fn listed(net: &Network, list: &[u8]) -> bool {
+    let joined = |i: u8, j: u8| net.guards[PATHS * i as usize + j as usize] != NO_CONFLICT;
+    let right = |(p, &j): (usize, &u8)| {
+        (j as usize) < net.n && list[..p].iter().all(|&i| i != j && joined(i, j))
+    };
+    (1..=LIST_MOST).contains(&list.len()) && list.iter().enumerate().all(right)
+}
+
+/// All orders, one after the other.
+pub fn all_orders(square: &Square, k: usize) -> usize {
+    fn go(square: &Square, order: &mut [usize], m: usize, total: usize, least: &mut usize) {
+        if m == order.len() {
+            *least = total.min(*least);
+            return;
+        }
+        for p in m..order.len() {
+            order.swap(m, p);
+            let step = if m == 0 { 0 } else { square[order[m - 1]][order[m]] as usize };
+            go(square, order, m + 1, total + step, least);
+            order.swap(m, p);
+        }
+    }
+    let (mut order, mut least) = ([0, 1, 2, 3, 4, 5, 6, 7], usize::MAX);
+    go(square, &mut order[..k], 0, 0, &mut least);
+    least
+}
+
+/// The library's own way: the least walks by sets of positions, the smaller sets first.
+pub fn by_sets(square: &Square, k: usize) -> usize {
+    let mut walks = [[NO_CONFLICT; LIST_MOST]; 1 << LIST_MOST];
+    let onward = |from: &[u8; LIST_MOST], guards: &[u8; LIST_MOST]| {
+        let sums = from.iter().zip(guards).map(|(&walk, &guard)| walk as u16 + guard as u16);
+        sums.fold(NO_CONFLICT as u16, u16::min) as u8
+    };
+    for set in 1..1 << k {
+        for j in (0..k).filter(|j| set >> j & 1 == 1) {
+            let rest = set - (1 << j);
+            walks[set][j] = if rest == 0 { 0 } else { onward(&walks[rest], &square[j]) };
+        }
+    }
+    onward(&walks[(1 << k) - 1], &[0; LIST_MOST]) as usize
 }

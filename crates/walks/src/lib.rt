@@ -44,14 +44,18 @@ pub fn square_of(guards: &[u8], list: &[u8]) -> [[u8; 8]; 8]
     square
 }
 
-// A guard and the walk after it.
-fn step(guard: u8, walk: u8) -> u16
-    ensures { λ r. ⌜ r ≡ guard + walk ⌝ }
+// A guard and the walk after it, 255 where they are more.
+fn step(guard: u8, walk: u8) -> u8
+    ensures { λ r. ⌜ r ≡ min 255 (guard + walk) ⌝ }
 {
-    (guard as u16) + (walk as u16)
+    if 255 - walk < guard {
+        255
+    } else {
+        guard + walk
+    }
 }
 
-fn smaller(a: u16, b: u16) -> u16
+fn smaller(a: u8, b: u8) -> u8
     ensures { λ r. ⌜ r ≡ min a b ⌝ }
 {
     if b < a { b } else { a }
@@ -62,13 +66,13 @@ fn onward(walks: &[u8], guards: [u8; 8], rest: usize) -> u8
     requires { ⌜ (rest < 256) × (8 * rest + 8 ≤ length (now walks)) ⌝ }
     ensures { λ r. ⌜ r ≡ onwardOf (now (walks .entry)) guards rest ⌝ }
 {
-    let mut best: u16 = 255;
+    let mut best: u8 = 255;
     let mut i: usize = 0;
     while i < 8 {
         best = smaller(best, step(guards[i], walks[8 * rest + i]));
         i += 1;
     }
-    best as u8
+    best
 }
 
 // The least walk through the set s from a position with these guards: own is that position alone, cut is s

@@ -1,11 +1,11 @@
 use native.Mathlib.Omega.{arith}
 use native.Mathlib.Numerals.{add-one}
 use borrow.Author.Needs.{needs}
-use Prim.Native.Nat.{ℕ, _+_, _-_, _*_, _≤_}
+use Prim.Native.Nat.{ℕ, suc, _+_, _-_, _*_, _≤_, min}
 use mathlib.Core.Path.{_≡_, refl, _∙_}
 use Rattle.rules.specs.Tables.{at}
 use Rattle.rules.specs.Scan.{least}
-use Rattle.table_laws.specs.Scans.{least-next, least-start}
+use Rattle.table_laws.specs.Scans.{least-start}
 use Rattle.walks.proofs.onward.Statement.{statement}
 use Rattle.walks.proofs.onward.Tie as tie
 
@@ -43,14 +43,13 @@ add-i c = omega arith
 loop-less : tie.Need-loop-less Inv-loop μ-loop
 loop-less c = omega arith
 
+-- what is more than 255 is not below it
+capped-next : (f : ℕ → ℕ) (i r v : ℕ) → r ≡ least 255 f i → v ≡ min 255 (f i) → min r v ≡ least 255 f (suc i)
+unfolding least
+capped-next f i r v e g = omega (arith, least-start 255 f i)
+
 loop-again : tie.Need-loop-again Inv-loop μ-loop
-loop-again c = (omega arith, c .smaller .ensures ∙ rw add-one (least-next 255 _ _ _ _ (c .before .before .before .before .loop .inv .1) (c .before .step .ensures)))
-
-capped : (f : ℕ → ℕ) (i r : ℕ) → r ≡ least 255 f i → r ≤ 255
-capped f i r e = omega (arith, least-start 255 f i)
-
-cast-result : tie.Need-cast-result Inv-loop μ-loop
-cast-result c = let b : c .before .loop .best ≤ 255 = capped _ _ _ (c .before .loop .inv .1) in omega arith
+loop-again c = (omega arith, c .smaller .ensures ∙ rw add-one (capped-next _ _ _ _ (c .before .before .before .before .loop .inv .1) (c .before .step .ensures)))
 
 returns : tie.Need-returns Inv-loop μ-loop
 returns c = let e : c .before .loop .i ≡ 8 = omega arith in rw e at (c .before .loop .inv .1)
@@ -71,5 +70,4 @@ onward-spec =
     add-i
     loop-less
     loop-again
-    cast-result
     returns)
