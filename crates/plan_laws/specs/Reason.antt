@@ -16,6 +16,7 @@ use Rattle.rules.specs.Tables.{at}
 use Rattle.rules.specs.Scan.{first, found, largest, sum}
 use Rattle.rules.specs.Plan.{Net, Conflict, inConflict, end, past, Clear, Valid}
 use Rattle.rules.specs.Reason.{isBelow, holdsUp, link, isLast, chainOf, chain, bottom, HoldsUp, last, Chain}
+use Rattle.table_laws.specs.Count.{count, count-le, count-more}
 use Rattle.table_laws.specs.Scans.{First, none, some, first-is, found-at, found-first, found-not, found-none, largest-ge, largest-le, sum-suc}
 
 -- a path below, and one that holds up, by their parts
@@ -106,44 +107,13 @@ module _ (net : Net) (plan : ℕ → ℕ) (n : ℕ) where
   chain-goes m k e = rw e
 
   -- how many paths start below slot s: so many links are left
-  unfoldable under : ℕ → ℕ → ℕ
-  under s zero = 0
-  under s (suc m) = under s m + cond (ltb (plan m) s) 1 0
-
-  one-most : (s t j : ℕ) → s ≤ t → cond (ltb (plan j) s) 1 0 ≤ cond (ltb (plan j) t) 1 0
-  one-most s t j h = go (decLt (plan j) s) (decLt (plan j) t)
-    where
-      go : Dec (plan j < s) → Dec (plan j < t) → cond (ltb (plan j) s) 1 0 ≤ cond (ltb (plan j) t) 1 0
-      go (yes x) (yes y) = rw (lt-ltb (plan j) s x, lt-ltb (plan j) t y) (omega arith)
-      go (yes x) (no y) = absurd (omega arith)
-      go (no x) d = rw (le-ltb (plan j) s (omega arith)) (omega arith)
-
-  under-rises : (s t m : ℕ) → s ≤ t → under s m ≤ under t m
-  unfolding under
-  under-rises s t zero h = omega arith
-  under-rises s t (suc m) h = omega (arith, under-rises s t m h, one-most s t m h)
-
-  under-falls : (s t m j : ℕ) → s ≤ t → j < m → s ≤ plan j → plan j < t → under s m < under t m
-  unfolding under
-  under-falls s t zero j h l a b = absurd (omega arith)
-  under-falls s t (suc m) j h l a b = go (ℕ-discrete m j) (λ g. under-falls s t m j h g a b)
-    where
-      go : Dec (m ≡ j) → (j < m → under s m < under t m) → under s m + cond (ltb (plan m) s) 1 0 < under t m + cond (ltb (plan m) t) 1 0
-      go (yes e) ih = rw (e, le-ltb (plan j) s a, lt-ltb (plan j) t b) (omega (arith, under-rises s t j h))
-      go (no e) ih = omega (arith, ih (omega arith), one-most s t m h)
-
-  under-most : (s m : ℕ) → under s m ≤ m
-  unfolding under
-  under-most s zero = omega arith
-  under-most s (suc m) = go (ltb (plan m) s) (under-most s m)
-    where
-      go : (b : Bool) → under s m ≤ m → under s m + cond b 1 0 ≤ suc m
-      go true h = omega arith
-      go false h = omega arith
+  abbrev under : ℕ → ℕ
+  under s = count (λ j. ltb (plan j) s) n
 
   -- a path does not start below itself
-  under-own : (k m : ℕ) → k < m → under (plan k) m < m
-  under-own k m l = omega (arith, under-falls (plan k) (suc (plan k)) m k (omega arith) l (omega arith) (omega arith), under-most (suc (plan k)) m)
+  under-own : (k : ℕ) → k < n → under (plan k) < n
+  under-own k l =
+      omega (arith, count-more (λ j. ltb (plan j) (plan k)) (λ j. true) n k (λ j g e. refl) l (le-ltb (plan k) (plan k) (omega arith)) refl, count-le (λ j. true) n)
 
   -- one path more in front of a chain
   last-longer : (k : ℕ) (c : List ℕ) → 1 ≤ length c → last c ≡ last (k ∷ c)
@@ -185,17 +155,20 @@ module _ (net : Net) (plan : ℕ → ℕ) (n : ℕ) where
     ends = last-ends k e;
   }
 
-  fewer : (k : ℕ) → Goes k → under (plan (link net plan n k)) n < under (plan k) n
+  -- and fewer paths start below a path's link than below the path
+  fewer : (k : ℕ) → Goes k → under (plan (link net plan n k)) < under (plan k)
   fewer k g =
       let j = link net plan n k in
-      under-falls (plan j) (plan k) n j (omega (arith, g .holds .lower)) (g .holds .path) (omega arith) (g .holds .lower)
+      count-more (λ i. ltb (plan i) (plan j)) (λ i. ltb (plan i) (plan k)) n j
+      (λ i l e. lt-ltb (plan i) (plan k) (omega (arith, ltb-true (plan i) (plan j) e, g .holds .lower))) (g .holds .path) (le-ltb (plan j) (plan j) (omega arith))
+      (lt-ltb (plan j) (plan k) (g .holds .lower))
 
   -- so a chain of as many paths as start below it, and one more, is whole
-  whole : (m k : ℕ) → under (plan k) n < m → Chain net plan n k (chainOf net plan n m k)
+  whole : (m k : ℕ) → under (plan k) < m → Chain net plan n k (chainOf net plan n m k)
   whole zero k l = absurd (omega arith)
   whole (suc m) k l = go (isLast net plan n k) refl (whole m (link net plan n k))
     where
-      go : (b : Bool) → isLast net plan n k ≡ b → (under (plan (link net plan n k)) n < m → Chain net plan n (link net plan n k) (chainOf net plan n m (link net plan n k)))
+      go : (b : Bool) → isLast net plan n k ≡ b → (under (plan (link net plan n k)) < m → Chain net plan n (link net plan n k) (chainOf net plan n m (link net plan n k)))
           → Chain net plan n k (chainOf net plan n (suc m) k)
       go true e ih = subst (Chain net plan n k) (sym (chain-stops m k e)) (alone k e)
       go false e ih =
@@ -204,7 +177,7 @@ module _ (net : Net) (plan : ℕ → ℕ) (n : ℕ) where
 
   pub chain-is : (k : ℕ) → k < n → Chain net plan n k (chain net plan n k)
   unfolding chain
-  chain-is k l = whole n k (under-own k n l)
+  chain-is k l = whole n k (under-own k l)
 
   -- it has at most n paths
   fuel : (m k : ℕ) → length (chainOf net plan n m k) ≤ m
@@ -236,13 +209,13 @@ module _ (net : Net) (plan : ℕ → ℕ) (n : ℕ) where
     ends = subst (λ y. (plan y ≡ net .low y) ⊎ ((j : ℕ) → HoldsUp net plan n y j → ⊥)) (sym (last-longer k (x ∷ c) (omega arith))) (h .ends);
   }
 
-  only : (m k : ℕ) (c : List ℕ) → under (plan k) n < m → Chain net plan n k c → c ≡ chainOf net plan n m k
+  only : (m k : ℕ) (c : List ℕ) → under (plan k) < m → Chain net plan n k c → c ≡ chainOf net plan n m k
   only zero k c l h = absurd (omega arith)
   only (suc m) k [] l h = absurd (omega (arith, h .some))
   only (suc m) k (y ∷ c) l h = ap (λ z. z ∷ c) (h .from) ∙ go c (isLast net plan n k) refl (subst (λ z. Chain net plan n k (z ∷ c)) (h .from) h) (λ d. only m (link net plan n k) d)
     where
       go : (c : List ℕ) (b : Bool) → isLast net plan n k ≡ b → Chain net plan n k (k ∷ c)
-          → ((d : List ℕ) → under (plan (link net plan n k)) n < m → Chain net plan n (link net plan n k) d → d ≡ chainOf net plan n m (link net plan n k))
+          → ((d : List ℕ) → under (plan (link net plan n k)) < m → Chain net plan n (link net plan n k) d → d ≡ chainOf net plan n m (link net plan n k))
           → k ∷ c ≡ chainOf net plan n (suc m) k
       go [] true e q ih = sym (chain-stops m k e)
       go [] false e q ih = absurd (stop (q .ends))
@@ -262,7 +235,7 @@ module _ (net : Net) (plan : ℕ → ℕ) (n : ℕ) where
 
   pub chain-only : (k : ℕ) (c : List ℕ) → k < n → Chain net plan n k c → c ≡ chain net plan n k
   unfolding chain
-  chain-only k c l h = only n k c (under-own k n l) h
+  chain-only k c l h = only n k c (under-own k l) h
 
 -- for the code: the next path of a chain, or n
 module _ (net : Net) (plan : ℕ → ℕ) (n k : ℕ) where

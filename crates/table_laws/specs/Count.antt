@@ -73,6 +73,28 @@ count-le P (suc n) = go (P n) (count-le P n)
     go true h = omega arith
     go false h = omega arith
 
+-- what passes P passes Q: at least as many pass, and more where one passes Q alone
+count-each : (P Q : ℕ → Bool) (k : ℕ) → (P k ≡ true → Q k ≡ true) → cond (P k) 1 0 ≤ cond (Q k) 1 0
+count-each P Q k h = go (P k) refl
+  where
+    go : (b : Bool) → P k ≡ b → cond b 1 0 ≤ cond (Q k) 1 0
+    go true e = rw (h e) (omega arith)
+    go false e = omega arith
+
+pub count-rises : (P Q : ℕ → Bool) (n : ℕ) → ((k : ℕ) → k < n → P k ≡ true → Q k ≡ true) → count P n ≤ count Q n
+unfolding weigh
+count-rises P Q zero h = omega arith
+count-rises P Q (suc n) h = omega (arith, count-each P Q n (h n (omega arith)), count-rises P Q n (λ k l. h k (omega arith)))
+
+pub count-more : (P Q : ℕ → Bool) (n x : ℕ) → ((k : ℕ) → k < n → P k ≡ true → Q k ≡ true) → x < n → P x ≡ false → Q x ≡ true → count P n < count Q n
+unfolding weigh
+count-more P Q zero x h l p q = absurd (omega arith)
+count-more P Q (suc n) x h l p q = go (ℕ-discrete n x) (λ g. count-more P Q n x (λ k m. h k (omega arith)) g p q)
+  where
+    go : Dec (n ≡ x) → (x < n → count P n < count Q n) → cond (P n) 1 0 + count P n < cond (Q n) 1 0 + count Q n
+    go (yes e) ih = rw (e, p, q) (omega (arith, count-rises P Q x (λ k m. h k (omega arith))))
+    go (no e) ih = omega (arith, ih (omega arith), count-each P Q n (h n (omega arith)))
+
 -- all pass, or one fails
 pub count-full : (P : ℕ → Bool) (n : ℕ) → count P n ≡ n → (k : ℕ) → k < n → P k ≡ true
 unfolding weigh
