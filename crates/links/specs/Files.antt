@@ -1,7 +1,7 @@
 -- The paths filed by the slot after their end, 32 slots to a file and every 128th file in one. A path stands in
 -- its own file and in the next, so that all paths that may hold up another are in one file: that of its start,
 -- since a guard is at most 32. Assumes nothing.
-use Prim.Native.Nat.{ℕ, suc, _+_, _-_, _/_, _%_, _≤_, _<_}
+use Prim.Native.Nat.{ℕ, _+_, _-_, _/_, _%_, _≤_, _<_}
 use mathlib.Core.Path.{_≡_, refl, sym, ap, subst, _∙_}
 use mathlib.Core.Logic.{_≢_, _⊎_, inl, inr}
 use mathlib.Core.Bool.{Bool, true, false, cond, _&&_}
@@ -12,12 +12,13 @@ use lib.ListN.{length, set, length-set}
 use lib.Dec.{ltb, eqb}
 use borrow.Author.Tests.{eq-eqb, ne-eqb, lt-ltb, le-ltb}
 use Rattle.rules.specs.Tables.{at, cell, cleared, Lent}
-use Rattle.rules.specs.Limits.{Network, Starts}
+use Rattle.rules.specs.Limits.{Network}
 use Rattle.rules.specs.Scan.{first}
 use Rattle.rules.specs.Plan.{Net, netOf, past}
 use Rattle.rules.specs.Reason.{isBelow, holdsUp, link, HoldsUp}
 use Rattle.table_laws.specs.Scans.{first-none, first-at}
 use Rattle.table_laws.specs.Tables.{at-same, at-other, cleared-at, cleared-length}
+use Rattle.plan_laws.specs.Fits.{network-bounds}
 use Rattle.plan_laws.specs.Reason.{holds-parts}
 
 -- the file of a slot, and the next one
@@ -221,11 +222,7 @@ module _ (n : ℕ) (lent : Lent) (starts : List ℕ) (k : ℕ) (w : Network n le
   held-file : (i : ℕ) → HoldsUp net (at starts) n k i → Stands (file i) (fileAt (at starts k))
   held-file i h =
       ends-near (at starts k) (at starts i + at (lent .widths) i) (at (lent .guards) (cell i k)) (omega (arith, h .meets, w .width i (h .path) .0))
-      (small (w .guard i k (h .path) l) (h .conflict))
-    where
-      small : (at (lent .guards) (cell i k) ≤ 32) ⊎ (at (lent .guards) (cell i k) ≡ 255) → at (lent .guards) (cell i k) < 255 → at (lent .guards) (cell i k) ≤ 32
-      small (inl x) c = x
-      small (inr x) c = absurd (omega arith)
+      (network-bounds n lent w .near i k (h .path) l (h .conflict))
 
   pub link-found : (r : ℕ) → Searched holds file n (fileAt (at starts k)) r → r ≡ link net (at starts) n k
   unfolding link
