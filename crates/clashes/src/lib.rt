@@ -13,7 +13,7 @@ ghost use Rattle.rules.specs.Numbers.{clashFault};
 ghost use Rattle.plan_laws.specs.Clash.{pairShort, lack};
 
 // End + guard + 1: the first slot past a path at s with width w and its guard g.
-fn past(s: u16, w: u16, g: u8) -> u16
+pub fn past(s: u16, w: u16, g: u8) -> u16
     requires { ⌜ (1 ≤ w) × ((w ≤ 64) × (s ≤ 16384)) ⌝ }
     ensures { λ r. ⌜ r ≡ s + w - 1 + g + 1 ⌝ }
 {

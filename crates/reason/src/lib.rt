@@ -6,9 +6,9 @@ use rules::Why;
 ghost use mathlib.Core.Path.{_≡_};
 ghost use mathlib.Core.Bool.{cond};
 ghost use mathlib.Core.List.{List, _++_};
-ghost use Prim.Native.Nat.{ℕ, _+_, _-_, _≤_, _<_, max};
+ghost use Prim.Native.Nat.{ℕ, _+_, _-_, _≤_, _<_};
 ghost use lib.ListN.{length, drop};
-ghost use lib.Dec.{ltb, leb};
+ghost use lib.Dec.{ltb};
 ghost use Rattle.rules.specs.Tables.{at, lend};
 ghost use Rattle.rules.specs.Limits.{Network, Starts};
 ghost use Rattle.rules.specs.Plan.{netOf};
@@ -89,7 +89,7 @@ fn asked_below(g: u8, s: u16, w: u16, t: u16) -> u16
     if t <= s {
         return 0;
     }
-    s + w - 1 + (g as u16) + 1
+    clashes::past(s, w, g)
 }
 
 // The lowest slot that path k can come down to, the paths below it held where they are.

@@ -1,10 +1,9 @@
 use Rattle.plan_laws.specs.Reason.{asks-free, asks-above, asks-some}
 use Prim.Native.Nat.{_+_, _-_}
+use mathlib.Core.Path.{_∙_}
 use borrow.Author.Needs.{needs}
 use Rattle.reason.proofs.asked_below.Statement.{statement}
 use Rattle.reason.proofs.asked_below.Tie as tie
-use Rattle.reason.proofs.asked_below.Reads as reads
-use Rattle.reason.proofs.asked_below.Lts as lts
 
 returns : tie.Need-returns
 returns c =
@@ -16,24 +15,15 @@ returns-2 c =
     let a = c .before .before .args in
     asks-above (a .g) (a .s) (a .t) (a .s + a .w - 1 + a .g + 1) (c .before .if1 .left) (c .if2 .taken)
 
-add-result : tie.Need-add-result
-add-result c = search needs
-
-sub-result : tie.Need-sub-result
-sub-result c = search needs
-
-add-result-2 : tie.Need-add-result-2
-add-result-2 c = search needs
-
-add-result-3 : tie.Need-add-result-3
-add-result-3 c = search needs
+past-requires : tie.Need-past-requires
+past-requires c κs = search needs
 
 returns-3 : tie.Need-returns-3
 returns-3 c =
-    let a = c .before .before .args in
-    asks-some (a .g) (a .s) (a .t) (a .s + a .w - 1 + a .g + 1) (c .before .if1 .left) (c .if2 .left)
+    let a = c .before .before .before .args in
+    c .past .ensures ∙ asks-some (a .g) (a .s) (a .t) (a .s + a .w - 1 + a .g + 1) (c .before .before .if1 .left) (c .before .if2 .left)
 
 pub asked-below-spec : {M : Type 1} → statement M
 asked-below-spec =
     tie.close
-    (tie.spec returns returns-2 add-result sub-result add-result-2 add-result-3 returns-3)
+    (tie.spec returns returns-2 past-requires returns-3)

@@ -5,14 +5,10 @@ use Rattle.rules.specs.Scan.{largest}
 use Rattle.rules.specs.Plan.{netOf}
 use Rattle.rules.specs.Tables.{at, lend}
 use native.Mathlib.Omega.{arith}
-use mathlib.Core.Path.{_≡_, sym, ap, _∙_}
-use Prim.Native.Nat.{_-_, _+_, _≤_, _<_, max}
+use mathlib.Core.Path.{_≡_, _∙_}
+use Prim.Native.Nat.{_-_, _≤_, _<_, max}
 use Rattle.reason.proofs.bottom_of.Statement.{statement}
 use Rattle.reason.proofs.bottom_of.Tie as tie
-use Rattle.reason.proofs.bottom_of.Reads as reads
-use Rattle.reason.proofs.bottom_of.Lts as lts
-use Rattle.engine.proofs.larger.Reads as larger-reads
-use Rattle.reason.proofs.asked_below.Reads as asked-below-reads
 
 abbrev Inv-loop : tie.InvT-loop
 Inv-loop n k widths guards starts low₀ j₀ low j = (low ≡ max 1 (largest (asksOf (netOf (lend widths guards)) (at starts) k) j)) × (j ≤ n)

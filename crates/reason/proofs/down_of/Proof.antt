@@ -4,10 +4,6 @@ use Rattle.rules.specs.Tables.{at, lend}
 use borrow.Author.Needs.{needs}
 use Rattle.reason.proofs.down_of.Statement.{statement}
 use Rattle.reason.proofs.down_of.Tie as tie
-use Rattle.reason.proofs.down_of.Reads as reads
-use Rattle.reason.proofs.down_of.Lts as lts
-use Rattle.clashes.proofs.below.Reads as below-reads
-use Rattle.reason.proofs.bottom_of.Reads as bottom-of-reads
 
 mul-s : tie.Need-mul-s
 mul-s c = search needs

@@ -3,15 +3,10 @@ use Rattle.table_laws.specs.Tables.{blank}
 use Rattle.rules.specs.Tables.{lend}
 use lib.ListN.{length-replicate}
 use native.Mathlib.Omega.{arith}
-use Prim.Native.Nat.{ℕ, _-_, _≤_, _<_}
+use Prim.Native.Nat.{ℕ, _-_}
 use borrow.Author.Needs.{needs}
 use Rattle.reason.proofs.explain.Statement.{statement}
 use Rattle.reason.proofs.explain.Tie as tie
-use Rattle.reason.proofs.explain.Reads as reads
-use Rattle.reason.proofs.explain.Lts as lts
-use Rattle.links.proofs.file_paths.Reads as file-paths-reads
-use Rattle.reason.proofs.down_of.Reads as down-of-reads
-use Rattle.reason.proofs.write_chain.Reads as write-chain-reads
 
 slice-aggregate-file-paths : tie.Need-slice-aggregate-file-paths
 slice-aggregate-file-paths c = search needs

@@ -5,9 +5,6 @@ use mathlib.Core.Path.{_∙_}
 use borrow.Author.Needs.{needs}
 use Rattle.reason.proofs.next_of.Statement.{statement}
 use Rattle.reason.proofs.next_of.Tie as tie
-use Rattle.reason.proofs.next_of.Reads as reads
-use Rattle.reason.proofs.next_of.Lts as lts
-use Rattle.links.proofs.link_of.Reads as link-of-reads
 
 mul-if1 : tie.Need-mul-if1
 mul-if1 c = search needs

@@ -6,10 +6,6 @@ use mathlib.Core.Path.{sym, _∙_}
 use borrow.Author.Needs.{needs}
 use Rattle.reason.proofs.path_fault.Statement.{statement}
 use Rattle.reason.proofs.path_fault.Tie as tie
-use Rattle.reason.proofs.path_fault.Reads as reads
-use Rattle.reason.proofs.path_fault.Lts as lts
-use Rattle.tables.proofs.accepted.Reads as accepted-reads
-use Rattle.tables.proofs.refused.Reads as refused-reads
 
 refused-requires : tie.Need-refused-requires
 refused-requires c κs = search needs

@@ -6,10 +6,6 @@ use mathlib.Core.Path.{refl, _∙_}
 use borrow.Author.Needs.{needs}
 use Rattle.reason.proofs.why.Statement.{statement}
 use Rattle.reason.proofs.why.Tie as tie
-use Rattle.reason.proofs.why.Reads as reads
-use Rattle.reason.proofs.why.Lts as lts
-use Rattle.reason.proofs.explain.Reads as explain-reads
-use Rattle.reason.proofs.why_fault.Reads as why-fault-reads
 
 why-fault-requires : tie.Need-why-fault-requires
 why-fault-requires c κs = search needs

@@ -8,13 +8,6 @@ use mathlib.Core.Path.{refl, ap, _∙_}
 use borrow.Author.Needs.{needs}
 use Rattle.reason.proofs.why_fault.Statement.{statement}
 use Rattle.reason.proofs.why_fault.Tie as tie
-use Rattle.reason.proofs.why_fault.Reads as reads
-use Rattle.reason.proofs.why_fault.Lts as lts
-use Rattle.clashes.proofs.clash_fault.Reads as clash-fault-reads
-use Rattle.reason.proofs.path_fault.Reads as path-fault-reads
-use Rattle.tables.proofs.lent_fault.Reads as lent-fault-reads
-use Rattle.tables.proofs.plan_sizes.Reads as plan-sizes-reads
-use Rattle.tables.proofs.start_fault.Reads as start-fault-reads
 
 plan-sizes-requires : tie.Need-plan-sizes-requires
 plan-sizes-requires c κs = search needs

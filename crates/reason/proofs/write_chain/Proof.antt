@@ -2,15 +2,12 @@ use borrow.Author.Needs.{needs}
 use Rattle.plan_laws.specs.Reason.{Writing, writing-first, writing-stop, writing-more, writing-full, next-ends, next-goes}
 use Rattle.rules.specs.Plan.{netOf}
 use Rattle.rules.specs.Tables.{at, lend}
-use lib.ListN.{length, set, length-set}
+use lib.ListN.{set, length-set}
 use native.Mathlib.Omega.{arith}
-use mathlib.Core.Path.{_≡_, sym, ap, subst, _∙_}
-use Prim.Native.Nat.{_-_, _+_, _≤_, _<_}
+use mathlib.Core.Path.{sym, subst}
+use Prim.Native.Nat.{_-_, _+_}
 use Rattle.reason.proofs.write_chain.Statement.{statement}
 use Rattle.reason.proofs.write_chain.Tie as tie
-use Rattle.reason.proofs.write_chain.Reads as reads
-use Rattle.reason.proofs.write_chain.Lts as lts
-use Rattle.reason.proofs.next_of.Reads as next-of-reads
 
 abbrev Inv-loop : tie.InvT-loop
 Inv-loop n path heads owns ups widths guards starts table₀ k₀ m₀ table k m = Writing (netOf (lend widths guards)) (at starts) n path table₀ m k table
