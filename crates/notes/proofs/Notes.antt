@@ -1,27 +1,22 @@
 -- The line that `--verbose` adds, piece by piece, and against what the calls answer. Assumes nothing.
-use Prim.Native.Nat.{ℕ, _+_, _≤_, min}
-use mathlib.Core.Path.{_≡_, refl, ap, subst, _∙_}
+use Prim.Native.Nat.{ℕ, min}
+use mathlib.Core.Path.{_≡_, ap, subst, _∙_}
 use mathlib.Core.Bool.{Bool, true, false}
 use mathlib.Core.List.{List, _++_}
-use lib.ListN.{length, length-append, replicate}
-use lib.Seq.{sets}
 use lib.Dec.{eqb}
-use native.Mathlib.Omega.{arith}
-use Rattle.rules.specs.declared.Planned.{Planned}
 use Rattle.rules.specs.declared.Sided.{Sided}
 use Rattle.rules.specs.Tables.{cleared, Lent}
 use Rattle.rules.specs.Text.{bytes, numeral}
 use Rattle.rules.specs.Writing.{pairs}
-use Rattle.rules.specs.Calls.{Left, left, planning, siding}
+use Rattle.rules.specs.Calls.{Left, left, siding}
 use Rattle.spelling.specs.Says.{Wrote}
-use Rattle.sheet_laws.specs.Writes.{both-pieces, digits-few}
+use Rattle.sheet_laws.specs.Writes.{both-pieces}
 use Rattle.notes.specs.Note.{part, ending, noteText}
 
 -- some words and a number
-pub part-wrote : (l m o w : List ℕ) (v x p q r : ℕ) → x ≡ min v 99999 → Wrote l p w q m → Wrote m q (numeral x) r o → Wrote l p (part w v) r o
+pub part-wrote : (l m w : List ℕ) (v x p r : ℕ) → x ≡ min v 99999 → Wrote l p (w ++ numeral x) r m → Wrote l p (part w v) r m
 unfolding part
-part-wrote l m o w v x p q r e h k =
-    both-pieces l m o p q r w (numeral (min v 99999)) h (subst (λ (y : ℕ). Wrote m q (numeral y) r o) e k)
+part-wrote l m w v x p r e h = subst (λ (y : ℕ). Wrote l p (w ++ numeral y) r m) e h
 
 -- the pieces, one after the other
 module _ (l₀ l₁ l₂ l₃ l₄ : List ℕ) (p q e r n conflicts highest kept : ℕ) (h₁ : Wrote l₀ 0 (part (bytes "planned ") n) p l₁)
@@ -54,7 +49,3 @@ note-is n highest kept conflicts lent order order′ l m r s z e g h =
     = ap (λ (x : Left Sided (List ℕ)). x .answer .number) e ∙ ap (λ (o : List ℕ). siding n lent o .answer .number) z in
     subst (λ (x : ℕ). Wrote l 0 (noteText n x highest (eqb (siding n lent (cleared 128 0) .answer .number) 0) kept) r m) g
     (subst (λ (x : ℕ). Wrote l 0 (noteText n conflicts highest (eqb x 0) kept) r m) d h)
-
-pub blank-order : replicate 128 0 ≡ cleared 128 0
-unfolding cleared
-blank-order = refl

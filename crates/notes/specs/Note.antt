@@ -1,15 +1,11 @@
 -- The line that `--verbose` adds on standard error, as `planned 3 paths, 2 pairs, highest slot 9, two sides`.
 -- Assumes nothing.
-use Prim.Native.Nat.{ℕ, _≤_, min}
+use Prim.Native.Nat.{ℕ, min}
 use mathlib.Core.Path.{_≡_, refl}
-use mathlib.Core.Bool.{Bool, true, false, cond}
-use mathlib.Core.List.{List, [], _++_}
-use lib.ListN.{length, take}
-use lib.Dec.{eqb}
-use Rattle.rules.specs.Tables.{cleared, Lent, lend}
+use mathlib.Core.Bool.{Bool, true, false}
+use mathlib.Core.List.{List, _++_}
 use Rattle.rules.specs.Text.{bytes, spell, numeral}
 use Rattle.rules.specs.Writing.{pairs}
-use Rattle.rules.specs.Calls.{reading, planning, siding}
 
 -- some words and a number. A number over 99,999 would stand as that; none is: a highest slot is at most
 -- 12,256, and 1,000 rounds are run

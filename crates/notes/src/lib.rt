@@ -21,8 +21,7 @@ fn put_part(line: &mut [u8], place: usize, w: &[u8], v: usize) -> usize
     ensures { λ r. ⌜ Wrote (now (line .entry)) place (part (now (w .entry)) v) r (now (line .exit)) ⌝ }
     ensures { λ r. ⌜ r ≤ place + length (now (w .entry)) + 5 ⌝ }
 {
-    let p = spelling::put_word(line, place, w);
-    spelling::put_number(line, p, least(v, 99999))
+    phrases::put_part(line, place, w, least(v, 99999))
 }
 
 // Puts the line.

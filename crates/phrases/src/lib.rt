@@ -1,4 +1,4 @@
-// An inner crate of the ask program: words with numbers and labels, and the answers that need no chain (RULES 26),
+// An inner crate of the programs: words with numbers and labels, and the answers that need no chain (RULES 26),
 // put into a text. Each function says how many bytes it puts at the most, so that the program knows beforehand
 // that the room is enough.
 ghost use mathlib.Core.Path.{_≡_};

@@ -3,7 +3,7 @@ use Prim.Native.Nat.{ℕ, _≤_}
 use mathlib.Core.Path.{_≡_, refl, sym, ap, _∙_}
 use mathlib.Core.Bool.{Bool, true, false, cond}
 use mathlib.Core.List.{List, _++_}
-use lib.ListN.{length, take, drop, replicate}
+use lib.ListN.{length, take, drop}
 use lib.Seq.{take-append-seam}
 use lib.Dec.{ltb, eqb}
 use native.Mathlib.Omega.{arith}
@@ -76,7 +76,3 @@ pub prints-within : (n : ℕ) (labels : List ℕ) (lent : Lent) (starts out out�
 prints-within n labels lent starts out out′ w h f =
     let e : w .length ≡ writing n labels lent starts out .answer .length = ap (λ (x : Left SheetWritten (List ℕ)). x .answer .length) f in
     omega (arith, e, h, written-short n labels lent starts out)
-
-pub blank-order : replicate 128 0 ≡ cleared 128 0
-unfolding cleared
-blank-order = refl

@@ -1,6 +1,6 @@
 use denote.Ref.{now}
 use Rattle.rules.specs.Tables.{lend}
-use Rattle.notes.proofs.Notes.{blank-order}
+use Rattle.table_laws.specs.Tables.{blank}
 use Rattle.notes.proofs.Notes.{note-is}
 use borrow.Author.Needs.{needs}
 use Rattle.notes.proofs.note.Statement.{statement}
@@ -27,7 +27,7 @@ returns c =
     let t = c .before .before .before .before .before .before .before .two-sides in
     let k = c .before .before .before .before .before .pair-count in
     let w = c .before .before .put-note in
-    (note-is (s .args .n) (s .args .highest) (s .args .kept) (k .result) (lend (now (s .args .widths)) (now (s .args .guards))) _ (t .last .1 .1 .1 .0) (now (s .args .line)) (w .last .0) (w .result) (t .result) blank-order (t .ensures) (k .ensures .0) (w .ensures .0), w .ensures .1)
+    (note-is (s .args .n) (s .args .highest) (s .args .kept) (k .result) (lend (now (s .args .widths)) (now (s .args .guards))) _ (t .last .1 .1 .1 .0) (now (s .args .line)) (w .last .0) (w .result) (t .result) (blank 128 0) (t .ensures) (k .ensures .0) (w .ensures .0), w .ensures .1)
 
 pub note-spec : {M : Type 1} → statement M
 note-spec =
