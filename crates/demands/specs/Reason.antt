@@ -29,11 +29,7 @@ module _ (net : Net) (n : ℕ) (good : Good net n) (plan : ℕ → ℕ) where
   step c i = net .width (at c (suc i)) + net .guard (at c (suc i)) (at c i)
 
   module _ (k : ℕ) (c : List ℕ) (h : Chain net plan n k c) where
-    -- the starts fall along it
-    pub chain-falls : (i : ℕ) → suc i < length c → plan (at c (suc i)) < plan (at c i)
-    chain-falls i l = h .links i l .lower
-
-    -- and the widths and guards add up
+    -- the widths and guards add up along it
     part-sum : (i : ℕ) → i < length c → plan k ≡ plan (at c i) + sum (step c) i
     unfolding sum
     part-sum zero l = omega (arith, ap plan (h .from))

@@ -9,7 +9,7 @@ ghost use Rattle.rules.specs.Tables.{at, cleared, lend};
 ghost use Rattle.rules.specs.Limits.{Network, Starts};
 ghost use Rattle.rules.specs.Plan.{netOf};
 ghost use Rattle.rules.specs.Reason.{holdsUp, link};
-ghost use Rattle.links.specs.Files.{fileAt, fileOf, above, Next, Filed, Searched};
+ghost use Rattle.links.specs.Files.{fileOf, Filed};
 
 // 32 slots to a file, as many as a guard can have, and every 128th file in one, so that there are few to clear.
 pub const FILES: usize = 128;

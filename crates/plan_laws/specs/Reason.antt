@@ -6,18 +6,18 @@ use mathlib.Core.Logic.{_≢_, _⊎_, inl, inr}
 use mathlib.Core.Bool.{Bool, true, false, cond, not, _&&_, _||_, true≢false}
 use mathlib.Core.List.{List, [], _∷_, _++_}
 use native.Mathlib.Omega.{arith}
-use native.Mathlib.Decide.{decLt, decLe, ℕ-discrete}
+use native.Mathlib.Decide.{decLt}
 use native.Mathlib.Numerals.{add-one}
 use lib.ListN.{length, set, drop, length-set, List·getD-append}
 use lib.Seq.{sets, sets-eq}
 use lib.Dec.{ltb, eqb}
-use borrow.Author.Tests.{eq-eqb, ne-eqb, eqb-true, eqb-false, lt-ltb, le-ltb, ltb-true, ltb-false, not-true, not-false}
+use borrow.Author.Tests.{eq-eqb, ne-eqb, eqb-true, eqb-false, lt-ltb, le-ltb, ltb-true}
 use Rattle.rules.specs.Tables.{at}
-use Rattle.rules.specs.Scan.{first, found, largest, sum}
-use Rattle.rules.specs.Plan.{Net, Conflict, inConflict, end, past, Clear, Valid}
+use Rattle.rules.specs.Scan.{first, found, largest}
+use Rattle.rules.specs.Plan.{Net, Conflict, inConflict, past}
 use Rattle.rules.specs.Reason.{isBelow, holdsUp, link, isLast, chainOf, chain, bottom, HoldsUp, last, Chain}
 use Rattle.table_laws.specs.Count.{count, count-le, count-more}
-use Rattle.table_laws.specs.Scans.{First, none, some, first-is, found-at, found-first, found-not, found-none, largest-ge, largest-le, sum-suc}
+use Rattle.table_laws.specs.Scans.{First, none, some, first-is, found-first, found-not}
 
 -- a path below, and one that holds up, by their parts
 module _ (net : Net) (plan : ℕ → ℕ) (k j : ℕ) where

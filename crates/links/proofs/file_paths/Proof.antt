@@ -4,12 +4,9 @@ use Rattle.table_laws.specs.Tables.{cleared-length}
 use lib.ListN.{length, length-set}
 use native.Mathlib.Omega.{arith}
 use mathlib.Core.Path.{_≡_, ap, subst}
-use Prim.Native.Nat.{ℕ, _≤_, _<_, _-_}
+use Prim.Native.Nat.{_≤_, _<_, _-_}
 use Rattle.links.proofs.file_paths.Statement.{statement}
 use Rattle.links.proofs.file_paths.Tie as tie
-use Rattle.links.proofs.file_paths.Reads as reads
-use Rattle.links.proofs.file_paths.Lts as lts
-use Rattle.links.proofs.file_of.Reads as file-of-reads
 
 abbrev Inv-loop : tie.InvT-loop
 Inv-loop n widths starts heads₀ owns₀ ups₀ j₀ heads owns ups j = (j ≤ n) × Filed (fileOf widths starts) n j heads owns ups

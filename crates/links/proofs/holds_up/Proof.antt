@@ -6,9 +6,6 @@ use mathlib.Core.Path.{_∙_}
 use borrow.Author.Needs.{needs}
 use Rattle.links.proofs.holds_up.Statement.{statement}
 use Rattle.links.proofs.holds_up.Tie as tie
-use Rattle.links.proofs.holds_up.Reads as reads
-use Rattle.links.proofs.holds_up.Lts as lts
-use Rattle.links.proofs.meets.Reads as meets-reads
 
 mul-g : tie.Need-mul-g
 mul-g c = search needs

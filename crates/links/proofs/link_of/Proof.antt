@@ -5,13 +5,9 @@ use Rattle.rules.specs.Plan.{netOf}
 use Rattle.rules.specs.Tables.{at, lend}
 use native.Mathlib.Omega.{arith}
 use mathlib.Core.Path.{sym, _∙_}
-use Prim.Native.Nat.{ℕ, _≤_, _<_, _-_}
+use Prim.Native.Nat.{_<_, _-_}
 use Rattle.links.proofs.link_of.Statement.{statement}
 use Rattle.links.proofs.link_of.Tie as tie
-use Rattle.links.proofs.link_of.Reads as reads
-use Rattle.links.proofs.link_of.Lts as lts
-use Rattle.links.proofs.holds_up.Reads as holds-up-reads
-use Rattle.links.proofs.next_in.Reads as next-in-reads
 
 abbrev Inv-loop : tie.InvT-loop
 Inv-loop n k heads owns ups widths guards starts b j₀ j = Searching (holdsUp (netOf (lend widths guards)) (at starts) k) (fileOf widths starts) n b j

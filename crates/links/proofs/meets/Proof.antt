@@ -3,8 +3,6 @@ use Rattle.links.specs.Files.{meets-free, meets-told}
 use borrow.Author.Needs.{needs}
 use Rattle.links.proofs.meets.Statement.{statement}
 use Rattle.links.proofs.meets.Tie as tie
-use Rattle.links.proofs.meets.Reads as reads
-use Rattle.links.proofs.meets.Lts as lts
 
 returns : tie.Need-returns
 returns c =

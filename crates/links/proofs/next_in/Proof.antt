@@ -3,9 +3,6 @@ use native.Mathlib.Omega.{arith}
 use borrow.Author.Needs.{needs}
 use Rattle.links.proofs.next_in.Statement.{statement}
 use Rattle.links.proofs.next_in.Tie as tie
-use Rattle.links.proofs.next_in.Reads as reads
-use Rattle.links.proofs.next_in.Lts as lts
-use Rattle.links.proofs.file_of.Reads as file-of-reads
 
 file-of-requires : tie.Need-file-of-requires
 file-of-requires c κs =
