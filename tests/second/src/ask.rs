@@ -1,4 +1,4 @@
-//! The program ask: what it has to print for its arguments and a sheet (L1, L2).
+//! The program ask: what it has to print for its arguments and a sheet (RULES 26).
 
 use crate::calls;
 use crate::net::*;

@@ -186,8 +186,8 @@ pub fn press(n: usize, widths: &[u16], guards: &[u8], starts: &mut [u16]) -> Ans
     Answer::of(run())
 }
 
-/// L2: 6 for a path of n or more, place 0, comes after 8. The chain takes the first cells of its
-/// table; its length is answered, and how far its last path can come down.
+/// RULES 25: 6 for a path of n or more, place 0, comes after 8. The chain takes the first cells of
+/// its table; its length is answered, and how far its last path can come down.
 pub fn why(
     n: usize, widths: &[u16], guards: &[u8], starts: &[u16], path: usize, chain: &mut [u8],
 ) -> Answer {

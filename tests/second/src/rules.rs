@@ -1,5 +1,5 @@
-//! RULES 4 to 12: what packing, pressing, sides, planning, improving and floors are; and L2, why a
-//! path stands where it stands.
+//! RULES 4 to 12: what packing, pressing, sides, planning, improving and floors are; and RULES 25,
+//! why a path stands where it stands.
 //!
 //! Everything here is about a network that has passed its tests; refusals are in `calls`.
 
@@ -57,13 +57,14 @@ pub fn press(net: &Network, starts: &[usize]) -> Vec<usize> {
     pack(net, &order)
 }
 
-/// What L2 answers: the chain down from a path, and how many slots its last path can come down.
+/// What RULES 25 answers: the chain down from a path, and how many slots its last path can come
+/// down.
 pub struct Reason {
     pub chain: Vec<usize>,
     pub down: usize,
 }
 
-/// L2: link after link, down to a path in slot 1 or to the first path that has no link.
+/// RULES 25: link after link, down to a path in slot 1 or to the first path that has no link.
 pub fn why(net: &Network, starts: &[usize], path: usize) -> Reason {
     let mut chain = vec![path];
     let mut last = path;
@@ -74,8 +75,8 @@ pub fn why(net: &Network, starts: &[usize], path: usize) -> Reason {
     Reason { chain, down: way_down(net, starts, last) }
 }
 
-/// L2: the conflicting lower path whose end + guard + 1 is the start of this one, of several the
-/// one of the lowest number. A path in slot 1 has none.
+/// RULES 25: the conflicting lower path whose end + guard + 1 is the start of this one, of several
+/// the one of the lowest number. A path in slot 1 has none.
 fn link(net: &Network, starts: &[usize], path: usize) -> Option<usize> {
     let carries = |&other: &usize| match net.guard(path, other) {
         Some(guard) if starts[other] < starts[path] => {
@@ -86,8 +87,8 @@ fn link(net: &Network, starts: &[usize], path: usize) -> Option<usize> {
     (0..net.paths()).find(|other| starts[path] > 1 && carries(other))
 }
 
-/// L2: the slots from a path down to the first start past its conflicting lower paths, which are
-/// held.
+/// RULES 25: the slots from a path down to the first start past its conflicting lower paths, which
+/// are held.
 fn way_down(net: &Network, starts: &[usize], path: usize) -> usize {
     let lower: Vec<usize> = (0..net.paths()).filter(|&p| starts[p] < starts[path]).collect();
     starts[path] - start_after(net, path, &lower, starts)

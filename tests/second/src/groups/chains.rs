@@ -1,5 +1,6 @@
-//! Why a path stands where it stands (L2): the checks, which other groups use too; plans loosened
-//! upwards, paths that rest on several others, every plan of a few paths, every set of refusals.
+//! Why a path stands where it stands (RULES 25): the checks, which other groups use too; plans
+//! loosened upwards, paths that rest on several others, every plan of a few paths, every set of
+//! refusals.
 
 use crate::brute::{self, Sides};
 use crate::calls::Answer;
@@ -33,7 +34,8 @@ pub struct Told {
     pub chain: Vec<usize>,
 }
 
-/// Asks about the case's path, and holds each claim of L2 against the slots. The plan may be wrong.
+/// Asks about the case's path, and holds each claim of RULES 25 against the slots. The plan may be
+/// wrong.
 pub fn told(t: &mut Tally, c: &Case, net: &Network) -> Option<Told> {
     let (answer, table) = compare::why(t, c)?;
     let mut chain: Vec<usize> = table.iter().take(answer.more[0]).map(|&p| p.into()).collect();
