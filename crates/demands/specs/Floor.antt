@@ -35,7 +35,7 @@ module _ (net : Net) (n : ℕ) (good : Good net n) (c : ℕ → ℕ) (k : ℕ) (
 
   -- two different paths of the list, whichever comes first, are in conflict and have no less than the least
   -- guard
-  both : (i j : ℕ) → i < k → j < k → i ≢ j → Conflict net (c i) (c j) × (leastGuard net c k ≤ net .guard (c i) (c j))
+  pub both : (i j : ℕ) → i < k → j < k → i ≢ j → Conflict net (c i) (c j) × (leastGuard net c k ≤ net .guard (c i) (c j))
   both i j h l ne = go (decLt i j)
     where
       go : Dec (i < j) → Conflict net (c i) (c j) × (leastGuard net c k ≤ net .guard (c i) (c j))

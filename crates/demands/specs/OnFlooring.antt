@@ -1,22 +1,25 @@
 -- The floor, as the call answers: what it is, by the orders of the list; that no valid plan's highest slot is
 -- below it; and that it is not below the coarse floor. Assumes nothing.
-use Prim.Native.Nat.{ℕ, _+_, _-_, _*_, _≤_, _<_}
-use mathlib.Core.Path.{_≡_, refl, _∙_}
+use Prim.Native.Nat.{ℕ, suc, _+_, _-_, _*_, _≤_, _<_}
+use mathlib.Core.Path.{_≡_, refl, sym, ap, _∙_}
 use mathlib.Core.Logic.{_⊎_, inl, inr}
 use mathlib.Core.List.{List}
 use native.Mathlib.Omega.{arith}
 use lib.ListN.{length}
 use Rattle.rules.specs.Tables.{at, Lent}
 use Rattle.rules.specs.Scan.{least, sum}
-use Rattle.rules.specs.Plan.{Net, netOf, highest, Valid}
-use Rattle.rules.specs.Packing.{Order}
+use Rattle.rules.specs.Plan.{Net, netOf, Conflict, highest, Valid}
+use Rattle.rules.specs.Packing.{Order, Once}
 use Rattle.rules.specs.Floor.{walk, floor, leastGuard, coarseFloor}
 use Rattle.rules.specs.Calls.{flooring}
-use Rattle.table_laws.specs.Scans.{least-le, least-at}
-use Rattle.demands.specs.Floor.{floor-holds, floor-finer}
+use Rattle.table_laws.specs.Scans.{least-le, least-at, sum-same}
+use Rattle.table_laws.specs.Orders.{sum-order}
+use Rattle.table_laws.specs.Limits.{order-once, once-order}
+use Rattle.demands.specs.OnAccepting.{flooring-exact}
+use Rattle.demands.specs.Floor.{both, floor-holds, floor-finer}
 use Rattle.plan_laws.specs.Fits.{network-good}
 use Rattle.plan_laws.specs.Answers.{Floorable, flooring-floorable, flooring-floor}
-use Rattle.plan_laws.specs.Walks.{shortest-le, shortest-at}
+use Rattle.plan_laws.specs.Walks.{shortest-le, shortest-at, shortest-same, shortest-turned}
 
 module _ (n : ℕ) (lent : Lent) (list : List ℕ) (zero-answer : flooring n lent list .number ≡ 0) where
   abbrev net : Net
@@ -28,24 +31,56 @@ module _ (n : ℕ) (lent : Lent) (list : List ℕ) (zero-answer : flooring n len
   f : Floorable n lent list
   f = flooring-floorable n lent list zero-answer
 
-  -- the slots that the paths of the list take when they stand one above another in an order of their
-  -- positions, with their guards between them and no more
-  abbrev stacked : (ℕ → ℕ) → ℕ
-  stacked order = sum (λ i. net .width (at list i)) k + walk (λ i j. net .guard (at list i) (at list j)) k order
+  -- the slots of the list's paths, one above another in an order of its positions with their guards between
+  abbrev pub stacked : (ℕ → ℕ) → ℕ
+  stacked order = sum (λ i. net .width (at list i)) k + sum (λ i. net .guard (at list (order i)) (at list (order (suc i)))) (k - 1)
 
   pub flooring-holds : (plan : ℕ → ℕ) → Valid net n plan → flooring n lent list .floor ≤ highest net plan n
   flooring-holds plan v = rw (flooring-floor n lent list zero-answer) (floor-holds net n (network-good n lent (f .network)) (at list) k (f .clique) plan v (f .some))
 
-  -- the least over all orders of the list: none has less, and some has it
-  pub flooring-least : (order : ℕ → ℕ) → Order order k k → flooring n lent list .floor ≤ stacked order
-  unfolding floor
-  flooring-least order ord = rw (flooring-floor n lent list zero-answer) (omega (arith, shortest-le (λ i j. net .guard (at list i) (at list j)) k order ord))
+  -- the least over all orders of the list: none takes less, and one takes it
+  pub flooring-least : (order : ℕ → ℕ) → Once order k → flooring n lent list .floor ≤ stacked order
+  unfolding floor walk
+  flooring-least order once =
+      rw (flooring-floor n lent list zero-answer)
+      (omega (arith, shortest-le (λ i j. net .guard (at list i) (at list j)) k order (once-order order k once)))
 
-  pub flooring-reached : (order : ℕ → ℕ) × Order order k k × (flooring n lent list .floor ≡ stacked order)
-  unfolding floor
+  pub flooring-reached : (order : ℕ → ℕ) × Once order k × (flooring n lent list .floor ≡ stacked order)
+  unfolding floor walk
   flooring-reached =
       let s = shortest-at (λ i j. net .guard (at list i) (at list j)) k in
-      (s .0, s .1, rw (flooring-floor n lent list zero-answer) (omega (arith, s .2)))
+      (s .0, order-once (s .0) k (s .1), rw (flooring-floor n lent list zero-answer) (omega (arith, s .2)))
+
+  -- the same list in another order: accepted too, with the same floor
+  module _ (other : List ℕ) (turn : ℕ → ℕ) (once : Once turn k) (long : length other ≡ k) (same : (i : ℕ) → i < k → at other i ≡ at list (turn i)) where
+    ord : Order turn k k
+    ord = once-order turn k once
+
+    joined : (i j : ℕ) → i < j → j < k → Conflict net (at other i) (at other j)
+    joined i j h l = rw (same i (omega arith), same j l) (both net n (network-good n lent (f .network)) (at list) k (f .clique) (turn i) (turn j) (ord .inside i (omega arith)) (ord .inside j l) (ord .fresh i j h l) .0)
+
+    turnedFloorable : Floorable n lent other
+    turnedFloorable = record {
+      network = f .network;
+      some = omega (arith, f .some);
+      few = omega (arith, f .few);
+      clique = record { inside = λ i l. rw (same i (omega arith)) (f .clique .inside (turn i) (ord .inside i (omega arith))); all = λ i j h l. joined i j h (omega arith) };
+    }
+
+    floors : floor net (at other) (length other) ≡ floor net (at list) k
+    unfolding floor
+    floors = rw long (omega (
+      arith,
+      sum-same (λ i. net .width (at other i)) (λ i. net .width (at list (turn i))) k (λ i l. ap (net .width) (same i l)),
+      sum-order (λ i. net .width (at list i)) turn k ord,
+      shortest-same (λ i j. net .guard (at other i) (at other j)) (λ i j. net .guard (at list (turn i)) (at list (turn j))) k (λ i j h l. rw (same i h, same j l)),
+      shortest-turned (λ i j. net .guard (at list i) (at list j)) k turn ord,
+    ))
+
+    pub flooring-turned : (flooring n lent other .number ≡ 0) × (flooring n lent other .floor ≡ flooring n lent list .floor)
+    flooring-turned =
+        let z = flooring-exact n lent other .1 turnedFloorable in
+        (z, flooring-floor n lent other z ∙ floors ∙ sym (flooring-floor n lent list zero-answer))
 
   -- never below the coarse floor
   pub flooring-finer : coarseFloor net (at list) k ≤ flooring n lent list .floor
