@@ -11,7 +11,7 @@ use Rattle.rules.specs.Plan.{Net, Conflict, Clear, Valid, end, highest}
 use Rattle.plan_laws.specs.Good.{Good}
 use Rattle.rules.specs.Packing.{Order}
 use Rattle.rules.specs.Scan.{least, sum}
-use Rattle.rules.specs.Floor.{Clique, walk, shortest, floor, leastGuard, coarseFloor}
+use Rattle.rules.specs.Floor.{Clique, walkLength, shortest, floor, leastGuard, coarseFloor}
 use Rattle.rules.specs.Pressing.{byStart}
 use Rattle.table_laws.specs.Scans.{sum-ge, least-le}
 use Rattle.table_laws.specs.Orders.{sum-order}
@@ -45,8 +45,8 @@ module _ (net : Net) (n : ℕ) (good : Good net n) (c : ℕ → ℕ) (k : ℕ) (
           (omega (arith, q .all j i (omega arith) h), omega (arith, guard-le net c k j i (omega arith) h))
 
   -- no walk is shorter than the least guard at each step
-  walk-ge : (o : ℕ → ℕ) → Order o k k → (k - 1) * leastGuard net c k ≤ walk guards k o
-  unfolding walk
+  walk-ge : (o : ℕ → ℕ) → Order o k k → (k - 1) * leastGuard net c k ≤ walkLength guards k o
+  unfolding walkLength
   walk-ge o ord = sum-ge (λ i. guards (o i) (o (suc i))) (leastGuard net c k) (k - 1)
       (λ i l. both (o i) (o (suc i)) (ord .inside i (omega arith)) (ord .inside (suc i) (omega arith)) (ord .fresh i (suc i) (omega arith) (omega arith)) .1)
 
@@ -85,8 +85,8 @@ module _ (net : Net) (n : ℕ) (good : Good net n) (c : ℕ → ℕ) (k : ℕ) (
     climb (suc m) l = omega (arith, climb m (omega arith), step m l)
 
     -- the widths and the walk by start fit below the highest slot
-    along : 1 ≤ k → sum (λ i. net .width (c i)) k + walk guards k (at o) ≤ highest net p n
-    unfolding walk
+    along : 1 ≤ k → sum (λ i. net .width (c i)) k + walkLength guards k (at o) ≤ highest net p n
+    unfolding walkLength
     along pos =
         let e : suc (k - 1) ≡ k = omega arith in
         omega (

@@ -10,7 +10,7 @@ use Rattle.rules.specs.Tables.{at, Lent}
 use Rattle.rules.specs.Scan.{least, sum}
 use Rattle.rules.specs.Plan.{Net, netOf, Conflict, highest, Valid}
 use Rattle.rules.specs.Packing.{Order, Once}
-use Rattle.rules.specs.Floor.{walk, floor, leastGuard, coarseFloor}
+use Rattle.rules.specs.Floor.{walkLength, floor, leastGuard, coarseFloor}
 use Rattle.rules.specs.Calls.{flooring}
 use Rattle.table_laws.specs.Scans.{least-le, least-at, sum-same}
 use Rattle.table_laws.specs.Orders.{sum-order}
@@ -40,13 +40,13 @@ module _ (n : ℕ) (lent : Lent) (list : List ℕ) (zero-answer : flooring n len
 
   -- the least over all orders of the list: none takes less, and one takes it
   pub flooring-least : (order : ℕ → ℕ) → Once order k → flooring n lent list .floor ≤ stacked order
-  unfolding floor walk
+  unfolding floor walkLength
   flooring-least order once =
       rw (flooring-floor n lent list zero-answer)
       (omega (arith, shortest-le (λ i j. net .guard (at list i) (at list j)) k order (once-order order k once)))
 
   pub flooring-reached : (order : ℕ → ℕ) × Once order k × (flooring n lent list .floor ≡ stacked order)
-  unfolding floor walk
+  unfolding floor walkLength
   flooring-reached =
       let s = shortest-at (λ i j. net .guard (at list i) (at list j)) k in
       (s .0, order-once (s .0) k (s .1), rw (flooring-floor n lent list zero-answer) (omega (arith, s .2)))

@@ -11,7 +11,7 @@ use borrow.Author.Tests.{eqb-true, eq-eqb}
 use Rattle.rules.specs.Tables.{at, cleared}
 use Rattle.rules.specs.Scan.{first, least, sum}
 use Rattle.rules.specs.Packing.{Order, Once, placed}
-use Rattle.rules.specs.Floor.{walk, leastOrder, shortest}
+use Rattle.rules.specs.Floor.{walkLength, leastOrder, shortest}
 use Rattle.table_laws.specs.Count.{each-suc}
 use Rattle.table_laws.specs.Scans.{found-at, found-first, least-le, least-at, sum-same}
 use Rattle.table_laws.specs.Tables.{at-same, at-other, cleared-length}
@@ -55,8 +55,8 @@ module _ (cost : (ℕ → ℕ) → ℕ) (bid k : ℕ) (same : (r s : ℕ → ℕ
       go (inr (j, l, z)) deeper = rw z (pick j (placed (at o) m j) refl (deeper j l))
 
 -- two orders that agree have the same walk
-walk-same : (guard : ℕ → ℕ → ℕ) (k : ℕ) (r s : ℕ → ℕ) → ((i : ℕ) → i < k → r i ≡ s i) → walk guard k r ≡ walk guard k s
-unfolding walk
+walk-same : (guard : ℕ → ℕ → ℕ) (k : ℕ) (r s : ℕ → ℕ) → ((i : ℕ) → i < k → r i ≡ s i) → walkLength guard k r ≡ walkLength guard k s
+unfolding walkLength
 walk-same guard k r s h = sum-same _ _ (k - 1) (λ i l. rw (h i (omega arith), h (suc i) (omega arith)))
 
 module _ (guard : ℕ → ℕ → ℕ) (k : ℕ) where
@@ -64,21 +64,21 @@ module _ (guard : ℕ → ℕ → ℕ) (k : ℕ) where
   room = omega (arith, cleared-length k 0)
 
   -- the shortest walk is no longer than any other, and some order has it
-  pub shortest-le : (r : ℕ → ℕ) → Order r k k → shortest guard k ≤ walk guard k r
+  pub shortest-le : (r : ℕ → ℕ) → Order r k k → shortest guard k ≤ walkLength guard k r
   unfolding shortest
-  shortest-le r ord = least-order-le (walk guard k) (walk guard k (λ i. i)) k (walk-same guard k) k 0 (cleared k 0) (omega arith) room r ord (λ i l. absurd (omega arith))
+  shortest-le r ord = least-order-le (walkLength guard k) (walkLength guard k (λ i. i)) k (walk-same guard k) k 0 (cleared k 0) (omega arith) room r ord (λ i l. absurd (omega arith))
 
-  pub shortest-at : (r : ℕ → ℕ) × Order r k k × (shortest guard k ≡ walk guard k r)
+  pub shortest-at : (r : ℕ → ℕ) × Order r k k × (shortest guard k ≡ walkLength guard k r)
   unfolding shortest
-  shortest-at = go (least-order-at (walk guard k) (walk guard k (λ i. i)) k (walk-same guard k) k 0 (cleared k 0) (omega arith) room
+  shortest-at = go (least-order-at (walkLength guard k) (walkLength guard k (λ i. i)) k (walk-same guard k) k 0 (cleared k 0) (omega arith) room
       record { inside = λ i l. absurd (omega arith); fresh = λ i j h l. absurd (omega arith) })
     where
-      go : (shortest guard k ≡ walk guard k (λ i. i)) ⊎ ((r : ℕ → ℕ) × Order r k k × (shortest guard k ≡ walk guard k r)) → (r : ℕ → ℕ) × Order r k k × (shortest guard k ≡ walk guard k r)
+      go : (shortest guard k ≡ walkLength guard k (λ i. i)) ⊎ ((r : ℕ → ℕ) × Order r k k × (shortest guard k ≡ walkLength guard k r)) → (r : ℕ → ℕ) × Order r k k × (shortest guard k ≡ walkLength guard k r)
       go (inl e) = ((λ i. i), record { inside = λ i l. l; fresh = λ i j h l e. omega arith }, e)
       go (inr x) = x
 
   -- nothing else is so
-  pub shortest-is : (x : ℕ) → ((r : ℕ → ℕ) → Order r k k → x ≤ walk guard k r) → (r : ℕ → ℕ) → Order r k k → x ≡ walk guard k r → x ≡ shortest guard k
+  pub shortest-is : (x : ℕ) → ((r : ℕ → ℕ) → Order r k k → x ≤ walkLength guard k r) → (r : ℕ → ℕ) → Order r k k → x ≡ walkLength guard k r → x ≡ shortest guard k
   shortest-is x below r ord e =
       let s = shortest-at in
       omega (arith, below (s .0) (s .1), s .2, shortest-le r ord)
@@ -89,8 +89,8 @@ shortest-same guard other k h =
     let s = shortest-at guard k in
     shortest-is other k (shortest guard k) (λ r ord. rw (sym (agree r ord)) (shortest-le guard k r ord)) (s .0) (s .1) (s .2 ∙ agree (s .0) (s .1))
   where
-    agree : (r : ℕ → ℕ) → Order r k k → walk guard k r ≡ walk other k r
-    agree r ord = unfold walk in sum-same _ _ (k - 1) (λ i l. h (r i) (r (suc i)) (ord .inside i (omega arith)) (ord .inside (suc i) (omega arith)))
+    agree : (r : ℕ → ℕ) → Order r k k → walkLength guard k r ≡ walkLength other k r
+    agree r ord = unfold walkLength in sum-same _ _ (k - 1) (λ i l. h (r i) (r (suc i)) (ord .inside i (omega arith)) (ord .inside (suc i) (omega arith)))
 
 -- an order of an order
 turned-order : (turn r : ℕ → ℕ) (k : ℕ) → Once turn k → Order turn k k → Order r k k → Order (λ i. turn (r i)) k k
@@ -99,8 +99,8 @@ turned-order turn r k once ord o = record {
   fresh = λ i j h l e. o .fresh i j h l (once .once (r i) (r j) (o .inside i (omega arith)) (o .inside j l) (ord .inside (r i) (o .inside i (omega arith))) e);
 }
 
-turned-walk : (guard : ℕ → ℕ → ℕ) (turn r s : ℕ → ℕ) (k : ℕ) → ((i : ℕ) → i < k → turn (r i) ≡ s i) → walk (λ i j. guard (turn i) (turn j)) k r ≡ walk guard k s
-unfolding walk
+turned-walk : (guard : ℕ → ℕ → ℕ) (turn r s : ℕ → ℕ) (k : ℕ) → ((i : ℕ) → i < k → turn (r i) ≡ s i) → walkLength (λ i j. guard (turn i) (turn j)) k r ≡ walkLength guard k s
+unfolding walkLength
 turned-walk guard turn r s k h = sum-same _ _ (k - 1) (λ i l. rw (h i (omega arith), h (suc i) (omega arith)))
 
 -- the shortest walk is the same in whatever order the list is given

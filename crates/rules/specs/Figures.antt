@@ -15,7 +15,7 @@ use Rattle.rules.specs.Packing.{placed, reach, lowest, packed, height}
 use Rattle.rules.specs.Pressing.{picked, choose, arranged, pressed}
 use Rattle.rules.specs.Sides.{touches, opposite, marks, isHigh, sameMark, hasSides, twoSided, lowSide}
 use Rattle.rules.specs.Planning.{greedy, draw, drawnPlace, swapped, stateAfter, tried, round, rounds, improved}
-use Rattle.rules.specs.Floor.{walk, leastOrder, shortest, floor, leastGuard, coarseFloor}
+use Rattle.rules.specs.Floor.{walkLength, leastOrder, shortest, floor, leastGuard, coarseFloor}
 use Rattle.rules.specs.Text.{bytes, then, word, isDigit, isLabelByte, run, label, isPlain, valueFrom, number, spell, numeral}
 use Rattle.rules.specs.Sheet.{isRow, find, bytesFrom, putRow, follow, lines, lastField, countLine, pathLine, guardLine, pathMeans, pathStep, guardCell, guardMeans, guardStep, startMeans, startStep, counted, after, ended, startsPart, guardsPart, sheetFrom}
 use Rattle.rules.specs.Writing.{labelOf, badLabel, labelTwice, isPair, pairs, hasPlan, joinFrom, countText, pathText, guardText, pathsText, guardsText, startsText, sheetText}
@@ -92,7 +92,7 @@ figures :
     ∷ (0x3C6EF35F ∷ 0x47502932 ∷ 0 ∷ 1 ∷ [])
     ∷ (10 ∷ [])
     ∷ []
-unfolding withGuard widthsT guardsT netT three packedRow pressedRow plannedRow judgedRow packT greedyT judgeTwo draws cleared first found firstRow foundPair largest least sum highest isLower short tooClose placed reach lowest packed height picked choose arranged pressed touches opposite marks isHigh sameMark hasSides twoSided lowSide draw drawnPlace swapped stateAfter tried round rounds improved walk leastOrder shortest floor refuseIf _orElse_ scan square countFault sizeFault orderFault startFault clashFault sidesFault roundsFault listFault networkFault networkSizes lentFault planSizes judgeFault packFault twoSidesFault planFault improveFault floorFault unless judging refusedPacked donePacked packing refusedPressed donePressed pressing siding refusedPlanned donePlanned doneImproved improving flooring
+unfolding withGuard widthsT guardsT netT three packedRow pressedRow plannedRow judgedRow packT greedyT judgeTwo draws cleared first found firstRow foundPair largest least sum highest isLower short tooClose placed reach lowest packed height picked choose arranged pressed touches opposite marks isHigh sameMark hasSides twoSided lowSide draw drawnPlace swapped stateAfter tried round rounds improved walkLength leastOrder shortest floor refuseIf _orElse_ scan square countFault sizeFault orderFault startFault clashFault sidesFault roundsFault listFault networkFault networkSizes lentFault planSizes judgeFault packFault twoSidesFault planFault improveFault floorFault unless judging refusedPacked donePacked packing refusedPressed donePressed pressing siding refusedPlanned donePlanned doneImproved improving flooring
 figures = refl
 
 -- how many slots short plans of T are, judged: the two that start together, where the lower number is the
@@ -127,7 +127,7 @@ floors :
     ∷ coarseFloor (netOf netStar) (at (0 ∷ 1 ∷ 2 ∷ 3 ∷ [])) 4
     ∷ [])
     ≡ 10 ∷ 10 ∷ 9 ∷ 4 ∷ 9 ∷ 9 ∷ 4 ∷ []
-unfolding withGuard widthsT guardsT netT netStar cleared first found firstRow foundPair least sum placed walk leastOrder shortest floor leastGuard coarseFloor refuseIf _orElse_ scan square countFault sizeFault listFault networkFault networkSizes lentFault floorFault unless flooring
+unfolding withGuard widthsT guardsT netT netStar cleared first found firstRow foundPair least sum placed walkLength leastOrder shortest floor leastGuard coarseFloor refuseIf _orElse_ scan square countFault sizeFault listFault networkFault networkSizes lentFault floorFault unless flooring
 floors = refl
 
 -- the worked example of the plan program, and a sheet that is refused

@@ -12,7 +12,7 @@ use lib.Dec.{eqb}
 use borrow.Author.Tests.{eqb-true, eqb-false}
 use Rattle.rules.specs.Tables.{at, cleared}
 use Rattle.rules.specs.Scan.{least}
-use Rattle.rules.specs.Floor.{walk, shortest}
+use Rattle.rules.specs.Floor.{walkLength, shortest}
 use Rattle.table_laws.specs.Count.{each-suc}
 use Rattle.table_laws.specs.Scans.{least-same}
 use Rattle.table_laws.specs.Tables.{at-same, at-other, cleared-at, cleared-length}
@@ -92,7 +92,7 @@ module _ (guard : ℕ → ℕ → ℕ) (k : ℕ) where
 
   -- at last the way on from no position, with no guards, through all positions is the shortest walk
   pub filled-all : (r s : ℕ) (walks : List ℕ) (none : List ℕ) → s ≡ power k → Filled s 0 walks → 1 ≤ k → k ≤ 8 → ((i : ℕ) → i < 8 → at none i ≡ 0)
-      → r ≡ onward walks none (s - 1) → walk guard k (λ i. i) < 255 → r ≡ shortest guard k
+      → r ≡ onward walks none (s - 1) → walkLength guard k (λ i. i) < 255 → r ≡ shortest guard k
   filled-all r s walks none q f pos few zeros e small = least-shortest guard k r (λ i. at none i + at walks (8 * (s - 1) + i)) pos few
       (λ i h. rw (← q, same i h) (f .done (s - 1) i (omega (arith, power-pos k)) h)) e small
     where

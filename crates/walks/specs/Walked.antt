@@ -10,7 +10,7 @@ use lib.Dec.{eqb}
 use borrow.Author.Tests.{eq-eqb}
 use Rattle.rules.specs.Scan.{least, sum}
 use Rattle.rules.specs.Packing.{Order, placed}
-use Rattle.rules.specs.Floor.{walk, shortest}
+use Rattle.rules.specs.Floor.{walkLength, shortest}
 use Rattle.table_laws.specs.Scans.{found-at, least-le, least-at, sum-front}
 use Rattle.table_laws.specs.Count.{count, count-le, count-some}
 use Rattle.table_laws.specs.Orders.{placed-not, count-placed}
@@ -135,8 +135,8 @@ module _ (guard : ℕ → ℕ → ℕ) (k : ℕ) where
 
   -- the least of the walks through all positions is the shortest
   pub least-shortest : (r : ℕ) (row : ℕ → ℕ) → 1 ≤ k → k ≤ 8 → ((i : ℕ) → i < 8 → Least (power k - 1) i (row i)) → r ≡ least 255 row 8
-      → walk guard k (λ i. i) < 255 → r ≡ shortest guard k
-  unfolding walk
+      → walkLength guard k (λ i. i) < 255 → r ≡ shortest guard k
+  unfolding walkLength
   least-shortest r row pos few rows e small = go (least-at 255 row 8)
     where
       last : suc (k - 1) ≡ k
@@ -162,7 +162,7 @@ module _ (guard : ℕ → ℕ → ℕ) (k : ℕ) where
       reached : (i : ℕ) (o : ℕ → ℕ) (m : ℕ) → Through (power k - 1) i o m → r ≡ steps o m → r ≡ shortest guard k
       reached i o m t q =
           let w = whole i o m t in
-          shortest-is guard k r (λ x ord. unfold walk in below x ord) o (rw last at (rw w at (t .order))) (unfold walk in (rw w at q))
+          shortest-is guard k r (λ x ord. unfold walkLength in below x ord) o (rw last at (rw w at (t .order))) (unfold walkLength in (rw w at q))
 
       own : Order (λ i. i) k k
       own = record { inside = λ i l. l; fresh = λ a b h l z. omega arith }

@@ -7,7 +7,7 @@ ghost use mathlib.Core.List.{[]};
 ghost use Prim.Native.Nat.{ℕ, suc, _+_, _-_, _*_, _%_, _≤_, _<_, min};
 ghost use lib.ListN.{length, getD};
 ghost use Rattle.rules.specs.Tables.{at, cleared};
-ghost use Rattle.rules.specs.Floor.{walk, shortest as shortestWalk};
+ghost use Rattle.rules.specs.Floor.{walkLength, shortest as shortestWalk};
 ghost use Rattle.walks.specs.Sets.{power, shifted};
 ghost use Rattle.walks.specs.Square.{Row, Square, guardIn};
 ghost use Rattle.walks.specs.Filled.{onward as onwardOf, leastFrom, Filled};
@@ -125,7 +125,7 @@ fn sets(k: usize) -> usize
 
 // The least walk through all k positions, the sets being filled one after the other in a blank table.
 fn shortest_in(square: [[u8; 8]; 8], k: usize, walks: &mut [u8]) -> u8
-    requires { ⌜ (1 ≤ k) × ((k ≤ 8) × ((walk (guardIn square) k (λ i. i) < 255)
+    requires { ⌜ (1 ≤ k) × ((k ≤ 8) × ((walkLength (guardIn square) k (λ i. i) < 255)
         × ((size : ℕ) × ((8 * power k ≤ size) × (now walks ≡ cleared size 255))))) ⌝ }
     ensures { λ r. ⌜ r ≡ shortestWalk (guardIn square) k ⌝ }
 {
@@ -140,7 +140,7 @@ fn shortest_in(square: [[u8; 8]; 8], k: usize, walks: &mut [u8]) -> u8
 
 // The same of at most four, in a smaller table: most lists are short, and a table is cleared each time.
 fn shortest_of_few(square: [[u8; 8]; 8], k: usize) -> u8
-    requires { ⌜ (1 ≤ k) × ((k ≤ 4) × (walk (guardIn square) k (λ i. i) < 255)) ⌝ }
+    requires { ⌜ (1 ≤ k) × ((k ≤ 4) × (walkLength (guardIn square) k (λ i. i) < 255)) ⌝ }
     ensures { λ r. ⌜ r ≡ shortestWalk (guardIn square) k ⌝ }
 {
     let mut walks = [255u8; 128];
@@ -149,7 +149,7 @@ fn shortest_of_few(square: [[u8; 8]; 8], k: usize) -> u8
 
 // The shortest walk through the first k positions of a square.
 pub fn shortest(square: [[u8; 8]; 8], k: usize) -> u8
-    requires { ⌜ (1 ≤ k) × ((k ≤ 8) × (walk (guardIn square) k (λ i. i) < 255)) ⌝ }
+    requires { ⌜ (1 ≤ k) × ((k ≤ 8) × (walkLength (guardIn square) k (λ i. i) < 255)) ⌝ }
     ensures { λ r. ⌜ r ≡ shortestWalk (guardIn square) k ⌝ }
 {
     if k <= 4 {

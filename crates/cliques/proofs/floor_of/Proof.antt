@@ -7,7 +7,7 @@ use borrow.Author.Needs.{needs}
 use Rattle.rules.specs.Tables.{at, Lent, lend}
 use Rattle.rules.specs.Scan.{sum}
 use Rattle.rules.specs.Plan.{netOf}
-use Rattle.rules.specs.Floor.{walk, shortest, floor}
+use Rattle.rules.specs.Floor.{walkLength, shortest, floor}
 use Rattle.table_laws.specs.Scans.{sum-le}
 use Rattle.plan_laws.specs.Fits.{network-bounds}
 use Rattle.plan_laws.specs.Answers.{Floorable}
@@ -23,8 +23,8 @@ module _ (n : ℕ) (lent : Lent) (list : List ℕ) (f : Floorable n lent list) (
       let inside = f .clique .inside in
       rw (q .row i (omega arith) .guard j l) (network-bounds n lent (f .network) .near (at list i) (at list j) (inside i (omega arith)) (inside j l) (f .clique .all i j h l))
 
-  walk-small : walk (guardIn square) (length list) (λ i. i) < 255
-  unfolding walk
+  walk-small : walkLength (guardIn square) (length list) (λ i. i) < 255
+  unfolding walkLength
   walk-small = omega (arith, f .few, sum-le (λ i. guardIn square i (suc i)) 32 (length list - 1) (λ i l. near i (suc i) (omega arith) (omega arith)))
 
   floor-sum : (w g r : ℕ) → w ≡ sum (λ i. at (lent .widths) (at list i)) (length list) → g ≡ shortest (guardIn square) (length list) → r ≡ w + g
