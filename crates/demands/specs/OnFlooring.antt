@@ -21,6 +21,10 @@ use Rattle.plan_laws.specs.Fits.{network-good}
 use Rattle.plan_laws.specs.Answers.{Floorable, flooring-floorable, flooring-floor}
 use Rattle.plan_laws.specs.Walks.{shortest-le, shortest-at, shortest-same, shortest-turned}
 
+-- the slots of a list's paths, one above another in an order of its positions with their guards between
+abbrev pub stacked : Net → List ℕ → (ℕ → ℕ) → ℕ
+stacked net list order = sum (λ i. net .width (at list i)) (length list) + sum (λ i. net .guard (at list (order i)) (at list (order (suc i)))) (length list - 1)
+
 module _ (n : ℕ) (lent : Lent) (list : List ℕ) (zero-answer : flooring n lent list .number ≡ 0) where
   abbrev net : Net
   net = netOf lent
@@ -31,21 +35,17 @@ module _ (n : ℕ) (lent : Lent) (list : List ℕ) (zero-answer : flooring n len
   f : Floorable n lent list
   f = flooring-floorable n lent list zero-answer
 
-  -- the slots of the list's paths, one above another in an order of its positions with their guards between
-  abbrev pub stacked : (ℕ → ℕ) → ℕ
-  stacked order = sum (λ i. net .width (at list i)) k + sum (λ i. net .guard (at list (order i)) (at list (order (suc i)))) (k - 1)
-
   pub flooring-holds : (plan : ℕ → ℕ) → Valid net n plan → flooring n lent list .floor ≤ highest net plan n
   flooring-holds plan v = rw (flooring-floor n lent list zero-answer) (floor-holds net n (network-good n lent (f .network)) (at list) k (f .clique) plan v (f .some))
 
   -- the least over all orders of the list: none takes less, and one takes it
-  pub flooring-least : (order : ℕ → ℕ) → Once order k → flooring n lent list .floor ≤ stacked order
+  pub flooring-least : (order : ℕ → ℕ) → Once order k → flooring n lent list .floor ≤ stacked net list order
   unfolding floor walkLength
   flooring-least order once =
       rw (flooring-floor n lent list zero-answer)
       (omega (arith, shortest-le (λ i j. net .guard (at list i) (at list j)) k order (once-order order k once)))
 
-  pub flooring-reached : (order : ℕ → ℕ) × Once order k × (flooring n lent list .floor ≡ stacked order)
+  pub flooring-reached : (order : ℕ → ℕ) × Once order k × (flooring n lent list .floor ≡ stacked net list order)
   unfolding floor walkLength
   flooring-reached =
       let s = shortest-at (λ i j. net .guard (at list i) (at list j)) k in

@@ -1,12 +1,13 @@
 -- The programs that RULES 21 wants shown unfit, and a network within the limits, so that the theorems are
 -- about something. A program for a call is any function from what the call is given to what it leaves behind.
 -- Assumes nothing.
-use Prim.Native.Nat.{ℕ, suc, _≤_}
-use mathlib.Core.Path.{_≡_, refl, sym, ap, _∙_}
+use Prim.Native.Nat.{ℕ, zero, suc, _+_, _≤_, _<_}
+use mathlib.Core.Path.{_≡_, refl, sym, subst, ap, _∙_}
 use mathlib.Core.Logic.{_≢_}
 use mathlib.Core.Bool.{cond}
 use mathlib.Core.List.{List, [], _∷_}
 use native.Mathlib.Omega.{arith}
+use native.Mathlib.Decide.{ℕ-discrete}
 use lib.ListN.{length}
 use lib.Dec.{ltb}
 use denote.Ref.{RefT, now}
@@ -22,15 +23,19 @@ use Rattle.rules.specs.declared.Why.{Why}
 use Rattle.rules.specs.Tables.{at, cleared, Lent, clearedNetwork}
 use Rattle.rules.specs.Limits.{Network}
 use Rattle.rules.specs.Scan.{sum}
+use Rattle.rules.specs.Plan.{netOf}
+use Rattle.rules.specs.Packing.{Order, Once}
+use Rattle.rules.specs.Floor.{coarseFloor}
 use Rattle.rules.specs.Better.{Bettered}
 use Rattle.rules.specs.Calls.{Left, judging, packing, pressing, explaining, siding, improving, planning, flooring, reading, writing}
 use Rattle.rules.specs.Figures.{netT, three}
-use Rattle.demands.specs.Witness.{netTwo, netOne, onePath, labelA, answers, betterT, differs}
+use Rattle.demands.specs.Witness.{netTwo, netOne, onePath, labelA, answers, betterT, differs, cellsT}
 use Rattle.table_laws.specs.Scans.{sum-same}
-use Rattle.table_laws.specs.Limits.{network-within}
+use Rattle.table_laws.specs.Limits.{network-within, order-once, once-order}
 use Rattle.plan_laws.specs.Answers.{Packable, improving-packable, packable-improves}
 use Rattle.plan_laws.specs.Runs.{runAfter, run-kept}
 use Rattle.demands.specs.OnImproving.{improving-highest, improving-kept}
+use Rattle.demands.specs.OnFlooring.{stacked}
 
 -- entry k of a list of numbers that were computed
 entry : {xs ys : List ℕ} (k : ℕ) → xs ≡ ys → at xs k ≡ at ys k
@@ -253,3 +258,73 @@ fixed-unfit program meets fixed =
     let is = meets given in
     let none = fixed given (ap (λ (r : Left Why Table). r .answer .number) is ∙ entry 14 answers) in
     omega (arith, none, ap (λ (r : Left Why Table). r .answer .down) is, entry 12 differs)
+
+-- (8) A floor that is the coarse one; one that no walk is longer than; one that is no more than along steps
+-- that come to a path twice; one from the walks that begin at the first path of the list alone. Each wherever
+-- it answers
+listT : Table
+listT = 0 ∷ 1 ∷ 2 ∷ []
+
+-- the paths of T, one above another in an order
+stackedT : (o : ℕ → ℕ) (a b c : ℕ) → o 0 ≡ a → o 1 ≡ b → o 2 ≡ c
+    → stacked (netOf netT) listT o ≡ 9 + (netOf netT .guard (at listT a) (at listT b) + netOf netT .guard (at listT b) (at listT c))
+unfolding listT sum
+stackedT o a b c x y z = rw (x, y, z) (omega (arith, entry 0 cellsT))
+
+-- from 0 to 2 and back
+toAndFro : ℕ → ℕ
+toAndFro zero = 0
+toAndFro (suc zero) = 2
+toAndFro (suc (suc i)) = 0
+
+to-and-fro-small : (i : ℕ) → toAndFro i < 3
+unfolding toAndFro
+to-and-fro-small zero = omega arith
+to-and-fro-small (suc zero) = omega arith
+to-and-fro-small (suc (suc i)) = omega arith
+
+module _ (program : ℕ × Lent × Table → Floored) (meets : Meets program flooringOf) where
+  given : ℕ × Lent × Table
+  given = (3, netT, listT)
+
+  -- what holds wherever the program answers holds of its answer for T, which is 10
+  tells : (P : ℕ × Lent × Table → ℕ → Type 0) → ((g : ℕ × Lent × Table) → program g .number ≡ 0 → P g (program g .floor)) → P given 10
+  unfolding given listT
+  tells P holds =
+      let is = meets given in
+      subst (P given) (ap (λ (r : Floored). r .floor) is ∙ entry 13 differs) (holds given (ap (λ (r : Floored). r .number) is ∙ entry 6 answers))
+
+  pub coarse-unfit : ((g : ℕ × Lent × Table) → program g .number ≡ 0 → program g .floor ≡ coarseFloor (netOf (g .1)) (at (g .2)) (length (g .2))) → ⊥
+  unfolding given listT
+  coarse-unfit same = let e = tells (λ g x. x ≡ coarseFloor (netOf (g .1)) (at (g .2)) (length (g .2))) same in omega (arith, e, entry 14 differs)
+
+  pub longest-unfit : ((g : ℕ × Lent × Table) → program g .number ≡ 0 → (order : ℕ → ℕ) → Once order (length (g .2)) → stacked (netOf (g .1)) (g .2) order ≤ program g .floor) → ⊥
+  unfolding given listT
+  longest-unfit most =
+      let own : Once (λ i. i) 3 = order-once (λ i. i) 3 (record { inside = λ i l. l; fresh = λ i j h l e. omega arith }) in
+      let e = tells (λ g x. (order : ℕ → ℕ) → Once order (length (g .2)) → stacked (netOf (g .1)) (g .2) order ≤ x) most (λ i. i) own in
+      omega (arith, e, stackedT (λ i. i) 0 1 2 refl refl refl, entry 1 cellsT, entry 2 cellsT)
+
+  pub twice-unfit : ((g : ℕ × Lent × Table) → program g .number ≡ 0 → (steps : ℕ → ℕ) → ((i : ℕ) → i < length (g .2) → steps i < length (g .2)) → program g .floor ≤ stacked (netOf (g .1)) (g .2) steps) → ⊥
+  unfolding given listT toAndFro
+  twice-unfit twice =
+      let e = tells (λ g x. (steps : ℕ → ℕ) → ((i : ℕ) → i < length (g .2) → steps i < length (g .2)) → x ≤ stacked (netOf (g .1)) (g .2) steps) twice toAndFro (λ i l. to-and-fro-small i) in
+      omega (arith, e, stackedT toAndFro 0 2 0 refl refl refl, entry 3 cellsT, entry 5 cellsT)
+
+  pub first-fixed-unfit : ((g : ℕ × Lent × Table) → program g .number ≡ 0 → (order : ℕ → ℕ) × Once order (length (g .2)) × (order 0 ≡ 0) × (program g .floor ≡ stacked (netOf (g .1)) (g .2) order)) → ⊥
+  unfolding given listT
+  first-fixed-unfit fixed = go (tells (λ g x. (order : ℕ → ℕ) × Once order (length (g .2)) × (order 0 ≡ 0) × (x ≡ stacked (netOf (g .1)) (g .2) order)) fixed)
+    where
+      -- 0 and 1 and 2 come to 12, 0 and 2 and 1 to 11
+      go : (order : ℕ → ℕ) × Once order 3 × (order 0 ≡ 0) × (10 ≡ stacked (netOf netT) listT order) → ⊥
+      go (order, once, first, e) = pick (ℕ-discrete (order 1) 1)
+        where
+          ord : Order order 3 3
+          ord = once-order order 3 once
+
+          others : (order 1 < 3) × (order 2 < 3) × (order 1 ≢ 0) × (order 2 ≢ 0) × (order 1 ≢ order 2)
+          others = (ord .inside 1 (omega arith), ord .inside 2 (omega arith), (λ z. ord .fresh 0 1 (omega arith) (omega arith) (first ∙ sym z)), (λ z. ord .fresh 0 2 (omega arith) (omega arith) (first ∙ sym z)), ord .fresh 1 2 (omega arith) (omega arith))
+
+          pick : Dec (order 1 ≡ 1) → ⊥
+          pick (yes y) = let z : order 2 ≡ 2 = omega (arith, others) in omega (arith, e, stackedT order 0 1 2 first y z, entry 1 cellsT, entry 2 cellsT)
+          pick (no y) = let x : order 1 ≡ 2 = omega (arith, others) in let z : order 2 ≡ 1 = omega (arith, others) in omega (arith, e, stackedT order 0 2 1 first x z, entry 3 cellsT, entry 4 cellsT)

@@ -5,13 +5,13 @@ use mathlib.Core.List.{List, [], _∷_}
 use lib.ListN.{replicate}
 use Rattle.rules.specs.Tables.{at, cleared, Lent, lend, clearedNetwork}
 use Rattle.rules.specs.Scan.{first, found, firstRow, foundPair, largest, least, sum}
-use Rattle.rules.specs.Plan.{highest, isLower, short, tooClose}
+use Rattle.rules.specs.Plan.{netOf, highest, isLower, short, tooClose}
 use Rattle.rules.specs.Packing.{placed, reach, lowest, packed, height}
 use Rattle.rules.specs.Pressing.{picked, choose, arranged, pressed}
 use Rattle.rules.specs.Reason.{isBelow, holdsUp, link, isLast, chainOf, chain, bottom, down}
 use Rattle.rules.specs.Sides.{touches, opposite, marks, isHigh, sameMark, hasSides, twoSided, lowSide}
 use Rattle.rules.specs.Planning.{draw, drawnPlace, swapped, stateAfter, tried, round, rounds, improved}
-use Rattle.rules.specs.Floor.{walkLength, leastOrder, shortest, floor}
+use Rattle.rules.specs.Floor.{walkLength, leastOrder, shortest, floor, leastGuard, coarseFloor}
 use Rattle.rules.specs.Text.{bytes, then, word, isDigit, isLabelByte, run, label, isPlain, valueFrom, number, spell, numeral}
 use Rattle.rules.specs.Sheet.{isRow, find, bytesFrom, putRow, follow, lines, lastField, countLine, pathLine, guardLine, pathMeans, pathStep, guardCell, guardMeans, guardStep, startMeans, startStep, counted, after, ended, startsPart, guardsPart, sheetFrom}
 use Rattle.rules.specs.Writing.{labelOf, badLabel, labelTwice, isPair, pairs, hasPlan, joinFrom, countText, pathText, guardText, pathsText, guardsText, startsText, sheetText}
@@ -62,7 +62,7 @@ betterT = refl
 
 -- two orders of T pack to different highest slots and different starts, a plan of T is pressed to another,
 -- the second round improves what the first has improved, two plans of T are short of different numbers of slots,
--- a chain has three paths, and a path can come down by nine slots
+-- a chain has three paths, a path can come down by nine slots, and the floor of T is one above the coarse one
 pub differs :
     (packing 3 netT (three 0 1 2) (three 0 0 0) .answer .highest
     ∷ packing 3 netT (three 1 0 2) (three 0 0 0) .answer .highest
@@ -77,7 +77,14 @@ pub differs :
     ∷ judging 3 netT (three 9 5 20) .short
     ∷ explaining 3 netT (three 1 4 10) 2 (cleared 128 0) .answer .length
     ∷ explaining 3 netT (three 20 10 30) 1 (cleared 128 0) .answer .down
+    ∷ flooring 3 netT (0 ∷ 1 ∷ 2 ∷ []) .floor
+    ∷ coarseFloor (netOf netT) (at (0 ∷ 1 ∷ 2 ∷ [])) 3
     ∷ [])
-    ≡ 12 ∷ 10 ∷ 1 ∷ 6 ∷ 6 ∷ 11 ∷ 10 ∷ 8 ∷ 3 ∷ 8 ∷ 1 ∷ 3 ∷ 9 ∷ []
-unfolding withGuard widthsT guardsT netT three cleared first found firstRow foundPair largest least sum highest isLower short tooClose placed reach lowest packed height picked choose arranged pressed touches opposite marks isHigh sameMark hasSides twoSided lowSide draw drawnPlace swapped stateAfter tried round rounds improved walkLength leastOrder shortest floor refuseIf _orElse_ scan square countFault sizeFault orderFault startFault clashFault sidesFault roundsFault listFault networkFault networkSizes lentFault planSizes judgeFault pathFault whyFault packFault twoSidesFault planFault improveFault floorFault unless judging refusedPacked donePacked packing refusedPressed donePressed pressing isBelow holdsUp link isLast chainOf chain bottom down refusedWhy doneWhy explaining siding refusedPlanned donePlanned doneImproved improving flooring then word isDigit isLabelByte run label isPlain valueFrom number spell numeral isRow find bytesFrom putRow follow lines lastField countLine pathLine guardLine pathMeans pathStep guardCell guardMeans guardStep startMeans startStep counted after ended startsPart guardsPart sheetFrom labelOf badLabel labelTwice isPair pairs hasPlan joinFrom countText pathText guardText pathsText guardsText startsText sheetText labelSizes sheetSizes writeFault donePlan planning readOutcome reading writing refusalText plannedText printed comparing packedAnswer
+    ≡ 12 ∷ 10 ∷ 1 ∷ 6 ∷ 6 ∷ 11 ∷ 10 ∷ 8 ∷ 3 ∷ 8 ∷ 1 ∷ 3 ∷ 9 ∷ 10 ∷ 9 ∷ []
+unfolding withGuard widthsT guardsT netT three cleared first found firstRow foundPair largest least sum highest isLower short tooClose placed reach lowest packed height picked choose arranged pressed touches opposite marks isHigh sameMark hasSides twoSided lowSide draw drawnPlace swapped stateAfter tried round rounds improved walkLength leastOrder shortest floor leastGuard coarseFloor refuseIf _orElse_ scan square countFault sizeFault orderFault startFault clashFault sidesFault roundsFault listFault networkFault networkSizes lentFault planSizes judgeFault pathFault whyFault packFault twoSidesFault planFault improveFault floorFault unless judging refusedPacked donePacked packing refusedPressed donePressed pressing isBelow holdsUp link isLast chainOf chain bottom down refusedWhy doneWhy explaining siding refusedPlanned donePlanned doneImproved improving flooring then word isDigit isLabelByte run label isPlain valueFrom number spell numeral isRow find bytesFrom putRow follow lines lastField countLine pathLine guardLine pathMeans pathStep guardCell guardMeans guardStep startMeans startStep counted after ended startsPart guardsPart sheetFrom labelOf badLabel labelTwice isPair pairs hasPlan joinFrom countText pathText guardText pathsText guardsText startsText sheetText labelSizes sheetSizes writeFault donePlan planning readOutcome reading writing refusalText plannedText printed comparing packedAnswer
 differs = refl
+
+-- T's widths and guards: added, and one by one
+pub cellsT : (sum (λ i. netOf netT .width (at (0 ∷ 1 ∷ 2 ∷ []) i)) 3 ∷ netOf netT .guard 0 1 ∷ netOf netT .guard 1 2 ∷ netOf netT .guard 0 2 ∷ netOf netT .guard 2 1 ∷ netOf netT .guard 2 0 ∷ []) ≡ 9 ∷ 1 ∷ 2 ∷ 0 ∷ 2 ∷ 0 ∷ []
+unfolding withGuard widthsT guardsT netT cleared sum
+cellsT = refl
