@@ -39,9 +39,9 @@
 #include <stddef.h>
 #include <stdint.h>
 
-#define NESBRUNKA_VERSION "0.11.0"
+#define NESBRUNKA_VERSION "0.12.0"
 #define NESBRUNKA_VERSION_MAJOR 0
-#define NESBRUNKA_VERSION_MINOR 11
+#define NESBRUNKA_VERSION_MINOR 12
 #define NESBRUNKA_VERSION_PATCH 0
 
 #ifdef __cplusplus
@@ -239,8 +239,9 @@ nesbrunka_planned nesbrunka_improve(size_t n,
                                     uint16_t *starts, size_t starts_length,
                                     uint32_t seed, size_t rounds);
 
-/* The floor of a list of 1 to 8 paths, each two in conflict: every valid plan reaches it. Tests
-   2, 1, 3, 4, 5, 15. Writes nothing. */
+/* The floor of a list of 1 to 8 paths, each two in conflict: their widths and the guards along the
+   shortest walk through them. Every valid plan reaches it, so a plan whose highest slot it is is a
+   best one. Tests 2, 1, 3, 4, 5, 15. Writes nothing. */
 nesbrunka_floored nesbrunka_floor(size_t n,
                                   const uint16_t *widths, size_t widths_length,
                                   const uint8_t *guards, size_t guards_length,

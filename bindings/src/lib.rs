@@ -261,7 +261,9 @@ pub fn improve(
     }
 }
 
-/// The floor of a list of 1 to 8 paths, each two in conflict: every valid plan reaches it.
+/// The floor of a list of 1 to 8 paths, each two in conflict: their widths and the guards along the
+/// shortest walk through them. Every valid plan reaches it, so a plan whose highest slot it is is a
+/// best one.
 ///
 /// Tests in this order: 2, 1, 3, 4, 5, 15.
 #[inline]

@@ -141,7 +141,7 @@ fn improving() {
 fn flooring() {
     let (widths, guards) = network();
     let all = floor(3, &widths, &guards, &[0, 1, 2]);
-    assert_eq!(all, Floored { number: DONE, place: 0, floor: 9 });
+    assert_eq!(all, Floored { number: DONE, place: 0, floor: 10 });
     let (empty, twice) = (floor(3, &widths, &guards, &[]), floor(3, &widths, &guards, &[2, 2]));
     assert_eq!(empty, Floored { number: REFUSED_LIST, place: 0, floor: 0 });
     assert_eq!(twice, Floored { number: REFUSED_LIST, place: 1, floor: 0 });

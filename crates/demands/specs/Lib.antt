@@ -15,9 +15,10 @@ pub mod OnPressing
 pub mod OnFlooring
 pub mod OnBetter
 pub mod OnExplaining
--- no second answer, and programs that are unfit
+-- no second answer, what the calls answer by computation, and programs that are unfit
 pub mod OneAnswer
 pub mod Witness
+pub mod Worked
 pub mod Unfit
 -- what is written is read back
 pub mod Writable

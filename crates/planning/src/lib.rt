@@ -205,7 +205,8 @@ fn floor_fault(n: usize, widths: &[u16], guards: &[u8], list: &[u8]) -> Fault
     cliques::list_fault(n, guards, list)
 }
 
-// The floor of a list of paths, each two in conflict: every valid plan reaches it.
+// The floor of a list of paths, each two in conflict: their widths and the shortest walk through them. Every
+// valid plan reaches it.
 pub fn floor(n: usize, widths: &[u16], guards: &[u8], list: &[u8]) -> Floored
     ensures { λ r. ⌜ r ≡ flooring n (lend (now (widths .entry)) (now (guards .entry))) (now (list .entry)) ⌝ }
 {

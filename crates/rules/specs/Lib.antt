@@ -27,5 +27,4 @@ pub mod Program
 pub mod Asking
 -- The figures: RULES 20, 25 and 26
 pub mod Figures
-pub mod Worked
 pub mod Asked
