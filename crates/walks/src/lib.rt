@@ -12,6 +12,9 @@ ghost use Rattle.walks.specs.Sets.{power, shifted};
 ghost use Rattle.walks.specs.Square.{Row, Square, guardIn};
 ghost use Rattle.walks.specs.Filled.{onward as onwardOf, leastFrom, Filled};
 
+// Stands for no walk. Through eight paths none is longer than seven guards of 32.
+const NO_WALK: u8 = 255;
+
 // Row p of the square: the guards of the path at position p with each path of the list, 255 past it.
 fn row_of(guards: &[u8], list: &[u8], p: usize) -> [u8; 8]
     requires { ⌜ (length (now guards) ≡ 16384) × ((length (now list) ≤ 8) × ((p < length (now list))
@@ -44,12 +47,12 @@ pub fn square_of(guards: &[u8], list: &[u8]) -> [[u8; 8]; 8]
     square
 }
 
-// A guard and the walk after it, 255 where they are more.
+// A guard and the walk after it; no walk where that does not fit a byte.
 fn step(guard: u8, walk: u8) -> u8
     ensures { λ r. ⌜ r ≡ min 255 (guard + walk) ⌝ }
 {
-    if 255 - walk < guard {
-        255
+    if NO_WALK - walk < guard {
+        NO_WALK
     } else {
         guard + walk
     }
@@ -61,12 +64,13 @@ fn smaller(a: u8, b: u8) -> u8
     if b < a { b } else { a }
 }
 
-// The least way on from a position with these guards through the set that is left. 255 where none is below.
+// The least way on from a position with these guards through the set that is left: one guard, and the least
+// walk from there.
 fn onward(walks: &[u8], guards: [u8; 8], rest: usize) -> u8
     requires { ⌜ (rest < 256) × (8 * rest + 8 ≤ length (now walks)) ⌝ }
     ensures { λ r. ⌜ r ≡ onwardOf (now (walks .entry)) guards rest ⌝ }
 {
-    let mut best: u8 = 255;
+    let mut best = NO_WALK;
     let mut i: usize = 0;
     while i < 8 {
         best = smaller(best, step(guards[i], walks[8 * rest + i]));
@@ -82,7 +86,7 @@ fn least_from(walks: &[u8], guards: [u8; 8], s: usize, own: usize, cut: usize) -
     ensures { λ r. ⌜ r ≡ leastFrom (now (walks .entry)) guards s own cut ⌝ }
 {
     if cut % 2 != 1 {
-        return 255;
+        return NO_WALK;
     }
     if s == own {
         return 0;
@@ -90,8 +94,8 @@ fn least_from(walks: &[u8], guards: [u8; 8], s: usize, own: usize, cut: usize) -
     onward(walks, guards, s - own)
 }
 
-// The least walks through the set s, from each of its positions, when those through all smaller numbers are
-// there.
+// Fills the cells of the set s, when all sets of smaller numbers are filled: every set that s is with one
+// position less is among them.
 fn fill_set(square: [[u8; 8]; 8], k: usize, s: usize, walks: &mut [u8])
     requires { ⌜ (k ≤ 8) × ((s < power k) × ((8 * s + 8 ≤ length (now walks))
         × Filled (guardIn square) k s 0 (now walks))) ⌝ }
@@ -138,12 +142,12 @@ fn shortest_in(square: [[u8; 8]; 8], k: usize, walks: &mut [u8]) -> u8
     onward(walks, [0; 8], all - 1)
 }
 
-// The same of at most four, in a smaller table: most lists are short, and a table is cleared each time.
+// The same of at most four, in a table that is sooner cleared.
 fn shortest_of_few(square: [[u8; 8]; 8], k: usize) -> u8
     requires { ⌜ (1 ≤ k) × ((k ≤ 4) × (walkLength (guardIn square) k (λ i. i) < 255)) ⌝ }
     ensures { λ r. ⌜ r ≡ shortestWalk (guardIn square) k ⌝ }
 {
-    let mut walks = [255u8; 128];
+    let mut walks = [NO_WALK; 128];
     shortest_in(square, k, &mut walks)
 }
 
@@ -155,6 +159,6 @@ pub fn shortest(square: [[u8; 8]; 8], k: usize) -> u8
     if k <= 4 {
         return shortest_of_few(square, k);
     }
-    let mut walks = [255u8; 2048];
+    let mut walks = [NO_WALK; 2048];
     shortest_in(square, k, &mut walks)
 }
