@@ -12,7 +12,7 @@ mod sheet;
 #[allow(dead_code)]
 mod turns;
 
-use nesbrunka::{PATHS, SHEET_MOST};
+use nesbrunka::{LIST_MOST, PATHS, SHEET_MOST};
 use networks::{longest, pairs, Network, Random, PERCENTS, SIZES};
 use rules::Starts;
 use std::hint::black_box;
@@ -37,7 +37,7 @@ const ON_ANY: [(&str, Work); 8] = [
     ("better", |net, _| done(library::better(net, &net.orders[0], &net.orders[1]))),
     ("improve, 1,000 rounds", |net, _| done(library::improve(net, &net.orders[0], 1000))),
     ("plan, 1,000 rounds", |net, _| done(library::plan(net, 1000))),
-    ("floor", |net, _| done(library::floor(net, black_box(&[0])))),
+    ("floor, one path", |net, _| done(library::floor(net, black_box(&[0])))),
 ];
 
 const ON_LINES: [(&str, Work); 2] = [
@@ -68,8 +68,18 @@ fn cases() -> Vec<Case> {
         }
         cases.extend(on(Network::line(n, random), &format!("line of {n}"), &ON_LINES));
     }
+    cases.push(floor_of_eight(random));
     cases.extend(sheets(random));
     cases
+}
+
+/// The floor of the longest list, in a network in which all paths are in conflict.
+fn floor_of_eight(random: &mut Random) -> Case {
+    let net = Network::new(40, pairs(40, 100), random);
+    let call = Box::new(move || {
+        done(library::floor(black_box(&net), black_box(&net.orders[0][..LIST_MOST])))
+    });
+    Case { name: "floor, eight of 40 paths".to_string(), call }
 }
 
 fn on<'a>(
