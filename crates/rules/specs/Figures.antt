@@ -115,8 +115,13 @@ shorts = refl
 unfoldable pub netStar : Lent
 netStar = lend (1 ∷ 1 ∷ 1 ∷ 1 ∷ replicate 124 0) (withGuard 0 1 0 (withGuard 0 2 0 (withGuard 0 3 0 (withGuard 1 2 5 (withGuard 1 3 5 (withGuard 2 3 5 (cleared 16384 255)))))))
 
--- floors: the paths of T in other orders, two of them and one alone; four paths, of which two that are not 0
--- have to be neighbours. After each network the coarse floor of the same paths
+-- four paths, all in conflict: a walk through the last three has no step of 0
+unfoldable pub netMixed : Lent
+netMixed = lend (3 ∷ 3 ∷ 1 ∷ 1 ∷ replicate 124 0) (withGuard 0 1 1 (withGuard 0 2 0 (withGuard 0 3 3 (withGuard 1 2 1 (withGuard 1 3 2 (withGuard 2 3 3 (cleared 16384 255)))))))
+
+-- floors: the paths of T in other orders, two of them and one alone; of the star, where two that are not 0
+-- have to be neighbours; of three of the mixed ones. After each network the coarse floor of the same paths, and
+-- at last the least guard of one path
 floors :
     (flooring 3 netT (1 ∷ 2 ∷ 0 ∷ []) .floor
     ∷ flooring 3 netT (2 ∷ 0 ∷ 1 ∷ []) .floor
@@ -125,9 +130,12 @@ floors :
     ∷ coarseFloor (netOf netT) (at (0 ∷ 1 ∷ 2 ∷ [])) 3
     ∷ flooring 4 netStar (0 ∷ 1 ∷ 2 ∷ 3 ∷ []) .floor
     ∷ coarseFloor (netOf netStar) (at (0 ∷ 1 ∷ 2 ∷ 3 ∷ [])) 4
+    ∷ flooring 4 netMixed (3 ∷ 2 ∷ 1 ∷ []) .floor
+    ∷ coarseFloor (netOf netMixed) (at (3 ∷ 2 ∷ 1 ∷ [])) 3
+    ∷ leastGuard (netOf netT) (at (1 ∷ [])) 1
     ∷ [])
-    ≡ 10 ∷ 10 ∷ 9 ∷ 4 ∷ 9 ∷ 9 ∷ 4 ∷ []
-unfolding withGuard widthsT guardsT netT netStar cleared first found firstRow foundPair least sum placed walkLength leastOrder shortest floor leastGuard coarseFloor refuseIf _orElse_ scan square countFault sizeFault listFault networkFault networkSizes lentFault floorFault unless flooring
+    ≡ 10 ∷ 10 ∷ 9 ∷ 4 ∷ 9 ∷ 9 ∷ 4 ∷ 8 ∷ 7 ∷ 255 ∷ []
+unfolding withGuard widthsT guardsT netT netStar netMixed cleared first found firstRow foundPair least sum placed walkLength leastOrder shortest floor leastGuard coarseFloor refuseIf _orElse_ scan square countFault sizeFault listFault networkFault networkSizes lentFault floorFault unless flooring
 floors = refl
 
 -- the worked example of the plan program, and a sheet that is refused
