@@ -11,7 +11,7 @@ use Rattle.rules.specs.Plan.{Net, Conflict, Clear, Valid, end, highest}
 use Rattle.plan_laws.specs.Good.{Good}
 use Rattle.rules.specs.Packing.{Order}
 use Rattle.rules.specs.Scan.{least, sum}
-use Rattle.rules.specs.Floor.{Clique, walkLength, shortest, floor, leastGuard, coarseFloor}
+use Rattle.rules.specs.Floor.{Clique, walkLength, floor, leastGuard, coarseFloor}
 use Rattle.rules.specs.Pressing.{byStart}
 use Rattle.table_laws.specs.Scans.{sum-ge, least-le}
 use Rattle.table_laws.specs.Orders.{sum-order}

@@ -1,7 +1,7 @@
 -- Trying the orders finds one that costs least, and so the shortest walk. Assumes nothing.
 use Prim.Native.Nat.{ℕ, zero, suc, _+_, _-_, _≤_, _<_}
 use mathlib.Core.Path.{_≡_, refl, sym, ap, _∙_}
-use mathlib.Core.Logic.{_≢_, _⊎_, inl, inr}
+use mathlib.Core.Logic.{_⊎_, inl, inr}
 use mathlib.Core.Bool.{Bool, true, false, cond}
 use mathlib.Core.List.{List}
 use native.Mathlib.Omega.{arith}
@@ -9,7 +9,7 @@ use lib.ListN.{length, set, length-set}
 use lib.Dec.{eqb}
 use borrow.Author.Tests.{eqb-true, eq-eqb}
 use Rattle.rules.specs.Tables.{at, cleared}
-use Rattle.rules.specs.Scan.{first, least, sum}
+use Rattle.rules.specs.Scan.{first, least}
 use Rattle.rules.specs.Packing.{Order, Once, placed}
 use Rattle.rules.specs.Floor.{walkLength, leastOrder, shortest}
 use Rattle.table_laws.specs.Count.{each-suc}

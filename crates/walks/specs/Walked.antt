@@ -12,10 +12,10 @@ use Rattle.rules.specs.Scan.{least, sum}
 use Rattle.rules.specs.Packing.{Order, placed}
 use Rattle.rules.specs.Floor.{walkLength, shortest}
 use Rattle.table_laws.specs.Scans.{found-at, least-le, least-at, sum-front}
-use Rattle.table_laws.specs.Count.{count, count-le, count-some}
+use Rattle.table_laws.specs.Count.{count-le, count-some}
 use Rattle.table_laws.specs.Orders.{placed-not, count-placed}
 use Rattle.plan_laws.specs.Walks.{shortest-is}
-use Rattle.walks.specs.Sets.{power, has, members, power-pos, power-le, has-taken, has-all, members-have, members-all}
+use Rattle.walks.specs.Sets.{power, has, members, power-le, has-taken, has-all, members-have, members-all}
 
 -- an order with j before it
 unfoldable pub before : ℕ → (ℕ → ℕ) → ℕ → ℕ

@@ -3,12 +3,11 @@
 // that no order is walked twice. A set is a number, bit j being position j; a table of walks has 8 cells for
 // each set, one for each position at which a walk may begin.
 ghost use mathlib.Core.Path.{_≡_};
-ghost use mathlib.Core.List.{[]};
 ghost use Prim.Native.Nat.{ℕ, suc, _+_, _-_, _*_, _%_, _≤_, _<_, min};
-ghost use lib.ListN.{length, getD};
+ghost use lib.ListN.{length};
 ghost use Rattle.rules.specs.Tables.{at, cleared};
 ghost use Rattle.rules.specs.Floor.{walkLength, shortest as shortestWalk};
-ghost use Rattle.walks.specs.Sets.{power, shifted};
+ghost use Rattle.walks.specs.Sets.{power};
 ghost use Rattle.walks.specs.Square.{Row, Square, guardIn};
 ghost use Rattle.walks.specs.Filled.{onward as onwardOf, leastFrom, Filled};
 

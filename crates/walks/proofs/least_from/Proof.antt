@@ -1,6 +1,5 @@
 use native.Mathlib.Omega.{arith}
 use borrow.Author.Tests.{eq-eqb, ne-eqb}
-use mathlib.Core.Path.{_∙_}
 use Rattle.walks.specs.Filled.{leastFrom}
 use Rattle.walks.proofs.least_from.Statement.{statement}
 use Rattle.walks.proofs.least_from.Tie as tie

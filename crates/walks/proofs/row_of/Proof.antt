@@ -1,11 +1,10 @@
 use native.Mathlib.Omega.{arith}
 use borrow.Author.Needs.{needs}
-use Prim.Native.Nat.{ℕ, _+_, _-_, _*_, _≤_, _<_}
-use mathlib.Core.Path.{_≡_, refl, _∙_}
+use Prim.Native.Nat.{_+_, _-_, _*_, _≤_, _<_}
+use mathlib.Core.Path.{refl, _∙_}
 use lib.ListN.{length, replicate, getD-replicate}
 use Rattle.rules.specs.Tables.{at}
 use Rattle.table_laws.specs.Updates.{Updated, update-none, update-more}
-use Rattle.walks.specs.Square.{Row}
 use Rattle.walks.proofs.row_of.Statement.{statement}
 use Rattle.walks.proofs.row_of.Tie as tie
 

@@ -1,6 +1,5 @@
 use native.Mathlib.Omega.{arith}
-use native.Mathlib.Numerals.{add-one}
-use Prim.Native.Nat.{suc, _-_, _≤_}
+use Prim.Native.Nat.{_-_, _≤_}
 use mathlib.Core.Path.{_≡_, refl}
 use Rattle.walks.specs.Sets.{power, power-most, power-next}
 use Rattle.walks.proofs.sets.Statement.{statement}

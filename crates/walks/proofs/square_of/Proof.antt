@@ -5,7 +5,7 @@ use mathlib.Core.List.{List, []}
 use lib.ListN.{length, getD, set, length-set}
 use lib.Seq.{getD-set-same, getD-set-other}
 use borrow.Author.Count.{below-more}
-use Rattle.walks.specs.Square.{Row, Square}
+use Rattle.walks.specs.Square.{Row}
 use Rattle.walks.proofs.square_of.Statement.{statement}
 use Rattle.walks.proofs.square_of.Tie as tie
 
