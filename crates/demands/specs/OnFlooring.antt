@@ -38,6 +38,10 @@ module _ (n : ℕ) (lent : Lent) (list : List ℕ) (zero-answer : flooring n len
   pub flooring-holds : (plan : ℕ → ℕ) → Valid net n plan → flooring n lent list .floor ≤ highest net plan n
   flooring-holds plan v = rw (flooring-floor n lent list zero-answer) (floor-holds net n (network-good n lent (f .network)) (at list) k (f .clique) plan v (f .some))
 
+  -- so a plan that meets it is a best one
+  pub flooring-best : (plan : ℕ → ℕ) → highest net plan n ≡ flooring n lent list .floor → (other : ℕ → ℕ) → Valid net n other → highest net plan n ≤ highest net other n
+  flooring-best plan e other v = rw e (flooring-holds other v)
+
   -- the least over all orders of the list: none takes less, and one takes it
   pub flooring-least : (order : ℕ → ℕ) → Once order k → flooring n lent list .floor ≤ stacked net list order
   unfolding floor walkLength
