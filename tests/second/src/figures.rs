@@ -303,7 +303,7 @@ fn p10_floor() {
     assert_eq!(calls::floor(3, &widths, &guards, &[0, 1, 2]), Answer::done(10, 0));
     let conflicts = [(0, 1, 1), (1, 2, 2), (0, 2, 0)];
     assert_eq!(floor_in_any_order(&[2, 4, 3], &conflicts, &[0, 1, 2]), 10);
-    assert_eq!(brute::floor_by_least_guard(&t(), &[0, 1, 2]), 9);
+    assert_eq!(brute::coarse_floor(&t(), &[0, 1, 2]), 9);
 }
 
 /// Worked by hand: one path is its width, two are their widths and guard, whatever else there is.
@@ -348,7 +348,7 @@ fn floor_of_four() {
 }
 
 /// Worked by hand: low guards, 7 in all, from each path to the next of 3, 6, 0, 5, 1, 7, 2, 4, and
-/// 30 elsewhere. The old floor had no guard at all.
+/// 30 elsewhere. The coarse floor has no guard at all.
 #[test]
 fn floor_of_eight_in_a_line() {
     let line = [3, 6, 0, 5, 1, 7, 2, 4];
@@ -368,7 +368,7 @@ fn floor_of_eight_in_a_line() {
         assert_eq!(calls::floor(8, &widths, &guards, &list), Answer::done(36 + 7, 0));
     }
     let net = Network::of(&[1, 2, 3, 4, 5, 6, 7, 8], &conflicts);
-    assert_eq!(brute::floor_by_least_guard(&net, &[0, 1, 2, 3, 4, 5, 6, 7]), 36);
+    assert_eq!(brute::coarse_floor(&net, &[0, 1, 2, 3, 4, 5, 6, 7]), 36);
 }
 
 /// Refused as before: the length, then the first entry at fault.
@@ -397,7 +397,7 @@ fn four_in_conflict() -> impl Iterator<Item = Network> {
     })
 }
 
-/// By orders as by sets, never below the old floor and never above the best plan.
+/// By orders as by sets, never below the coarse floor and never above the best plan.
 #[test]
 fn floors_by_orders_and_by_sets() {
     let mut higher = 0;
@@ -405,7 +405,7 @@ fn floors_by_orders_and_by_sets() {
         for list in [&[2][..], &[3, 0], &[1, 3, 2], &[0, 1, 2, 3]] {
             let floor = rules::floor(&net, list);
             assert_eq!(floor, brute::floor_by_sets(&net, list));
-            let old = brute::floor_by_least_guard(&net, list);
+            let old = brute::coarse_floor(&net, list);
             assert!(old <= floor && floor <= brute::best_by_orders(&net.part(list)));
             higher += usize::from(old < floor);
         }

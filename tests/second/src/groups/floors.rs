@@ -39,7 +39,7 @@ fn bytes(list: &[usize]) -> Vec<u8> {
 }
 
 /// Asks for the floor of the case's list, right or wrong, in a network without a fault, and holds
-/// the answer against all walks and against the floor before L3. The floor comes back, if there is
+/// the answer against all walks and against the coarse floor. The floor comes back, if there is
 /// one.
 pub fn told(t: &mut Tally, c: &Case, net: &Network) -> Option<usize> {
     let answer = compare::floor(t, c)?.answer;
@@ -52,7 +52,7 @@ pub fn told(t: &mut Tally, c: &Case, net: &Network) -> Option<usize> {
     }
     let floor = answer.more[0];
     say("no walk is shorter, and one is as short", floor == brute::floor_by_sets(net, &list));
-    say("the floor is not below the old one", floor >= brute::floor_by_least_guard(net, &list));
+    say("the floor is not below the coarse one", floor >= brute::coarse_floor(net, &list));
     Some(floor)
 }
 
