@@ -3,6 +3,7 @@ pub mod Press
 pub mod Reason
 pub mod Mirror
 pub mod Floor
+pub mod Met
 pub mod TwoSided
 pub mod Finding
 -- the calls as they answer

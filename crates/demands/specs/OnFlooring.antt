@@ -17,9 +17,11 @@ use Rattle.table_laws.specs.Orders.{sum-order}
 use Rattle.table_laws.specs.Limits.{order-once, once-order}
 use Rattle.demands.specs.OnAccepting.{flooring-exact}
 use Rattle.demands.specs.Floor.{both, floor-holds, floor-finer}
+use Rattle.demands.specs.Met.{Between, stack, stack-valid, stack-highest}
+use Rattle.plan_laws.specs.Good.{Good}
 use Rattle.plan_laws.specs.Fits.{network-good}
 use Rattle.plan_laws.specs.Answers.{Floorable, flooring-floorable, flooring-floor}
-use Rattle.plan_laws.specs.Walks.{shortest-le, shortest-at, shortest-same, shortest-turned}
+use Rattle.plan_laws.specs.Walks.{shortest-le, shortest-at, shortest-same, turned-order, shortest-turned}
 
 -- the slots of a list's paths, one above another in an order of its positions with their guards between
 abbrev pub stacked : Net → List ℕ → (ℕ → ℕ) → ℕ
@@ -85,6 +87,44 @@ module _ (n : ℕ) (lent : Lent) (list : List ℕ) (zero-answer : flooring n len
     flooring-turned =
         let z = flooring-exact n lent other .1 turnedFloorable in
         (z, flooring-floor n lent other z ∙ floors ∙ sym (flooring-floor n lent list zero-answer))
+
+  -- where the list has all paths of the network, and no guard reaches past a path in between, some valid plan
+  -- meets it
+  pub flooring-met : length list ≡ n → Between net n → (plan : ℕ → ℕ) × Valid net n plan × (highest net plan n ≡ flooring n lent list .floor)
+  flooring-met whole rule = (stack net n good (λ j l. refl) rule o ord, valid, omega (arith, top, flooring-holds (stack net n good (λ j l. refl) rule o ord) valid))
+    where
+      good : Good net n
+      good = network-good n lent (f .network)
+
+      -- the listed paths are an order of the network's, and so they are in the order of the shortest walk
+      listed : Order (at list) n n
+      listed = record {
+        inside = λ i l. f .clique .inside i (omega arith);
+        fresh = λ i j h l e. omega (arith, f .clique .all i j h (omega arith), good .alone (at list j) (f .clique .inside j (omega arith)), ap (λ x. net .guard x (at list j)) e);
+      }
+
+      r : ℕ → ℕ
+      r = flooring-reached .0
+
+      walked : Order r n n
+      walked = rw whole at (once-order (flooring-reached .0) k (flooring-reached .1))
+
+      o : ℕ → ℕ
+      o i = at list (r i)
+
+      ord : Order o n n
+      ord = turned-order (at list) r n listed walked
+
+      valid : Valid net n (stack net n good (λ j l. refl) rule o ord)
+      valid = stack-valid net n good (λ j l. refl) rule o ord
+
+      top : highest net (stack net n good (λ j l. refl) rule o ord) n ≤ flooring n lent list .floor
+      top = omega (
+        arith,
+        stack-highest net n good (λ j l. refl) rule o ord (omega (arith, f .some)),
+        sum-order (λ i. net .width (at list i)) r n walked,
+        rw whole at (flooring-reached .2),
+      )
 
   -- never below the coarse floor
   pub flooring-finer : coarseFloor net (at list) k ≤ flooring n lent list .floor

@@ -1,21 +1,19 @@
 -- Trying the orders finds one that costs least, and so the shortest walk. Assumes nothing.
 use Prim.Native.Nat.{ℕ, zero, suc, _+_, _-_, _≤_, _<_}
-use mathlib.Core.Path.{_≡_, refl, sym, ap, _∙_}
+use mathlib.Core.Path.{_≡_, refl, sym, _∙_}
 use mathlib.Core.Logic.{_⊎_, inl, inr}
 use mathlib.Core.Bool.{Bool, true, false, cond}
 use mathlib.Core.List.{List}
 use native.Mathlib.Omega.{arith}
 use lib.ListN.{length, set, length-set}
-use lib.Dec.{eqb}
-use borrow.Author.Tests.{eqb-true, eq-eqb}
 use Rattle.rules.specs.Tables.{at, cleared}
-use Rattle.rules.specs.Scan.{first, least}
-use Rattle.rules.specs.Packing.{Order, Once, placed}
+use Rattle.rules.specs.Scan.{least}
+use Rattle.rules.specs.Packing.{Order, placed}
 use Rattle.rules.specs.Floor.{walkLength, leastOrder, shortest}
 use Rattle.table_laws.specs.Count.{each-suc}
-use Rattle.table_laws.specs.Scans.{found-at, found-first, least-le, least-at, sum-same}
+use Rattle.table_laws.specs.Scans.{least-le, least-at, sum-same}
 use Rattle.table_laws.specs.Tables.{at-same, at-other, cleared-length}
-use Rattle.table_laws.specs.Orders.{placed-none, placed-not, order-more}
+use Rattle.table_laws.specs.Orders.{placed-none, placed-not, place, spot, spot-holds, spots, order-more}
 use Rattle.table_laws.specs.Limits.{order-once}
 
 module _ (cost : (ℕ → ℕ) → ℕ) (bid k : ℕ) (same : (r s : ℕ → ℕ) → ((i : ℕ) → i < k → r i ≡ s i) → cost r ≡ cost s) where
@@ -93,11 +91,13 @@ shortest-same guard other k h =
     agree r ord = unfold walkLength in sum-same _ _ (k - 1) (λ i l. h (r i) (r (suc i)) (ord .inside i (omega arith)) (ord .inside (suc i) (omega arith)))
 
 -- an order of an order
-turned-order : (turn r : ℕ → ℕ) (k : ℕ) → Once turn k → Order turn k k → Order r k k → Order (λ i. turn (r i)) k k
-turned-order turn r k once ord o = record {
-  inside = λ i l. ord .inside (r i) (o .inside i l);
-  fresh = λ i j h l e. o .fresh i j h l (once .once (r i) (r j) (o .inside i (omega arith)) (o .inside j l) (ord .inside (r i) (o .inside i (omega arith))) e);
-}
+pub turned-order : (turn r : ℕ → ℕ) (k : ℕ) → Order turn k k → Order r k k → Order (λ i. turn (r i)) k k
+turned-order turn r k ord o =
+    let once = order-once turn k ord in
+    record {
+      inside = λ i l. ord .inside (r i) (o .inside i l);
+      fresh = λ i j h l e. o .fresh i j h l (once .once (r i) (r j) (o .inside i (omega arith)) (o .inside j l) (ord .inside (r i) (o .inside i (omega arith))) e);
+    }
 
 turned-walk : (guard : ℕ → ℕ → ℕ) (turn r s : ℕ → ℕ) (k : ℕ) → ((i : ℕ) → i < k → turn (r i) ≡ s i) → walkLength (λ i j. guard (turn i) (turn j)) k r ≡ walkLength guard k s
 unfolding walkLength
@@ -107,9 +107,6 @@ turned-walk guard turn r s k h = sum-same _ _ (k - 1) (λ i l. rw (h i (omega ar
 pub shortest-turned : (guard : ℕ → ℕ → ℕ) (k : ℕ) (turn : ℕ → ℕ) → Order turn k k → shortest (λ i j. guard (turn i) (turn j)) k ≡ shortest guard k
 shortest-turned guard k turn ord = omega (arith, up, down)
   where
-    once : Once turn k
-    once = order-once turn k ord
-
     turned : ℕ → ℕ → ℕ
     turned i j = guard (turn i) (turn j)
 
@@ -117,24 +114,16 @@ shortest-turned guard k turn ord = omega (arith, up, down)
     down =
         let s = shortest-at turned k in
         let r : ℕ → ℕ = λ i. turn (s .0 i) in
-        omega (arith, s .2, turned-walk guard turn (s .0) r k (λ i l. refl), shortest-le guard k r (turned-order turn (s .0) k once ord (s .1)))
-
-    -- the position at which the order has x
-    back : ℕ → ℕ
-    back x = first (λ i. eqb (turn i) x) k
-
-    back-at : (x : ℕ) → x < k → (back x < k) × (turn (back x) ≡ x)
-    back-at x l =
-        let h = once .holds x l in
-        let f = found-first (λ i. eqb (turn i) x) k (found-at (λ i. eqb (turn i) x) k (h .0) (h .1) (eq-eqb (turn (h .0)) x (h .2))) in
-        (f .0, eqb-true _ _ (f .1))
+        omega (arith, s .2, turned-walk guard turn (s .0) r k (λ i l. refl), shortest-le guard k r (turned-order turn (s .0) k ord (s .1)))
 
     up : shortest turned k ≤ shortest guard k
     up =
         let s = shortest-at guard k in
-        let r = s .0 in
-        let ord : Order (λ i. back (r i)) k k = record {
-          inside = λ i l. back-at (r i) (s .1 .inside i l) .0;
-          fresh = λ i j h l e. s .1 .fresh i j h l (sym (back-at (r i) (s .1 .inside i (omega arith)) .1) ∙ ap turn e ∙ back-at (r j) (s .1 .inside j l) .1);
-        } in
-        omega (arith, s .2, turned-walk guard turn (λ i. back (r i)) r k (λ i l. back-at (r i) (s .1 .inside i l) .1), shortest-le turned k (λ i. back (r i)) ord)
+        let holds = place turn k ord in
+        let r : ℕ → ℕ = λ i. spot turn k (s .0 i) in
+        omega (
+          arith,
+          s .2,
+          turned-walk guard turn r (s .0) k (λ i l. spot-holds turn k holds (s .0 i) (s .1 .inside i l) .1),
+          shortest-le turned k r (turned-order (spot turn k) (s .0) k (spots turn k holds) (s .1)),
+        )

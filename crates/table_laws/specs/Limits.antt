@@ -1,7 +1,7 @@
 -- The tests and the limits: each chain of tests finds no fault exactly where the limits of RULES 3 hold.
 -- Assumes nothing.
 use Prim.Native.Nat.{ℕ, _≤_, _<_}
-use mathlib.Core.Path.{_≡_, refl, sym, ap, subst, _∙_}
+use mathlib.Core.Path.{_≡_, refl, sym, ap, subst}
 use mathlib.Core.Logic.{_≢_, _⊎_, inl, inr}
 use mathlib.Core.Bool.{Bool, true, false, not, _||_, _&&_, true≢false}
 use mathlib.Core.List.{List}
@@ -13,12 +13,11 @@ use borrow.Author.Tests.{ltb-false, leb-false, lt-ltb, le-ltb, lt-leb, eq-eqb, n
 use Rattle.rules.specs.declared.Fault.{Fault}
 use Rattle.rules.specs.Tables.{at, cell, Lent}
 use Rattle.rules.specs.Limits.{Network, Starts}
-use Rattle.rules.specs.Scan.{first}
 use Rattle.rules.specs.Packing.{placed, Order, Once}
 use Rattle.rules.specs.Numbers.{nowhereShort, noFault, outside, countFault, badWidth, badGuard, badMirror, badEntry, orderFault, badStart, startFault, networkFault, networkSizes}
-use Rattle.table_laws.specs.Scans.{First, none, some, first-is}
+use Rattle.table_laws.specs.Scans.{some}
 use Rattle.table_laws.specs.Faults.{refuse-not, refuse-clear, or-clear, or-none, scan-none, scan-clear, square-none, square-clear, size-good, size-clear}
-use Rattle.table_laws.specs.Orders.{placed-none, placed-not, place}
+use Rattle.table_laws.specs.Orders.{placed-none, placed-not, place, spot, spot-holds, spots}
 
 -- what a clear fault says of a fault that equals it
 pub clear-of : {f : Fault} → f ≡ noFault → f .number ≡ 0
@@ -145,24 +144,8 @@ order-once o n ord = record { holds = place o n ord; once = λ i j l g h e. same
 pub once-order : (o : ℕ → ℕ) (n : ℕ) → Once o n → Order o n n
 once-order o n h = record { inside = λ i l. inside i l; fresh = λ i j g l e. omega (arith, h .once i j (omega arith) l (inside i (omega arith)) e) }
   where
-    spot : ℕ → ℕ
-    spot k = first (λ i. eqb (o i) k) n
-
-    spot-holds : (k : ℕ) → k < n → (spot k < n) × (o (spot k) ≡ k)
-    spot-holds k l = go (h .holds k l) (first-is (λ i. eqb (o i) k) n)
-      where
-        go : (i : ℕ) × (i < n) × (o i ≡ k) → First (λ i. eqb (o i) k) n (first (λ i. eqb (o i) k) n) → (spot k < n) × (o (spot k) ≡ k)
-        go x (none e f) = absurd (true≢false (sym (eq-eqb (o (x .0)) k (x .2)) ∙ f (x .0) (x .1)))
-        go x (some l e f) = (l, eqb-true (o (spot k)) k e)
-
-    spots : Order spot n n
-    spots = record {
-      inside = λ k l. spot-holds k l .0;
-      fresh = λ i j g l e. omega (arith, spot-holds i (omega arith) .1, spot-holds j l .1, ap o e);
-    }
-
     inside : (i : ℕ) → i < n → o i < n
-    inside i l = let k = place spot n spots i l in omega (arith, spot-holds (k .0) (k .1) .1, ap o (k .2))
+    inside i l = let k = place (spot o n) n (spots o n (h .holds)) i l in omega (arith, spot-holds o n (h .holds) (k .0) (k .1) .1, ap o (k .2))
 
 -- 7
 pub starts-within : (n : ℕ) (starts : List ℕ) → length starts ≡ 128 → startFault n starts .number ≡ 0 → Starts n starts
