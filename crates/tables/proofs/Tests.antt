@@ -2,15 +2,14 @@
 use Prim.Native.Nat.{ℕ, _+_, _≤_, _<_}
 use mathlib.Core.Path.{_≡_, refl, _∙_}
 use mathlib.Core.Logic.{_≢_}
-use mathlib.Core.Bool.{Bool, true, false, not, _||_, _&&_}
+use mathlib.Core.Bool.{true, false}
 use mathlib.Core.List.{List}
 use native.Mathlib.Omega.{arith}
-use lib.Dec.{ltb, eqb}
 use lib.ListN.{length, set, length-set}
-use borrow.Author.Tests.{lt-ltb, le-ltb, lt-leb, le-leb, eq-eqb, ne-eqb, eqb-false}
+use borrow.Author.Tests.{lt-ltb, le-ltb, lt-leb, le-leb}
 use borrow.Author.Count.{below-none, below-more}
-use Rattle.rules.specs.Tables.{at, cell}
-use Rattle.rules.specs.Numbers.{outside, badGuard, badMirror, badEntry}
+use Rattle.rules.specs.Tables.{at}
+use Rattle.rules.specs.Numbers.{outside, badEntry}
 use Rattle.table_laws.specs.Marks.{Marked, marked-none, marked-more, marked-yes, marked-no}
 
 pub outside-low : (least most x : ℕ) → x < least → outside least most x ≡ true
@@ -18,27 +17,6 @@ outside-low least most x h = rw (lt-ltb x least h)
 
 pub outside-high : (least most x : ℕ) → least ≤ x → most < x → outside least most x ≡ true
 outside-high least most x h g = rw (le-ltb x least h, lt-ltb most x g)
-
--- 4: a guard within its range, and 255 on the diagonal
-pub guard-right : (guards : List ℕ) (i j : ℕ) → (i ≡ j → at guards (cell i j) ≡ 255) → (at guards (cell i j) ≢ 255 → at guards (cell i j) ≤ 32) → badGuard guards i j ≡ false
-guard-right guards i j d h = go (eqb g 255) refl
-  where
-    g : ℕ
-    g = at guards (cell i j)
-
-    go : (b : Bool) → eqb g 255 ≡ b → (not b && (eqb i j || ltb 32 g)) ≡ false
-    go true e = refl
-    go false e = rw (ne-eqb i j (λ q. eqb-false g 255 e (d q)), le-ltb 32 g (h (eqb-false g 255 e)))
-
--- 5: on or before the diagonal; equal to its mirror; unequal
-pub mirror-before : (guards : List ℕ) (i j : ℕ) → j ≤ i → badMirror guards i j ≡ false
-mirror-before guards i j l = rw (le-ltb i j l)
-
-pub mirror-same : (guards : List ℕ) (i j : ℕ) → i < j → at guards (cell i j) ≡ at guards (cell j i) → badMirror guards i j ≡ false
-mirror-same guards i j l e = rw (lt-ltb i j l, eq-eqb (at guards (cell i j)) (at guards (cell j i)) e)
-
-pub mirror-other : (guards : List ℕ) (i j : ℕ) → i < j → at guards (cell i j) ≢ at guards (cell j i) → badMirror guards i j ≡ true
-mirror-other guards i j l e = rw (lt-ltb i j l, ne-eqb (at guards (cell i j)) (at guards (cell j i)) e)
 
 -- 6: the scan of an order, with the table of the paths seen
 pub record Met (n : ℕ) (order seen : List ℕ) (p : ℕ) : Type 0 where
