@@ -1,5 +1,5 @@
 // An inner crate: the tests of lent tables, each once, for every call. Each scan goes from the lowest
-// index, by i then j, and cells of index n or more are never tested. A square is tested by rows (`squares`).
+// index, by i then j, and cells of index n or more are never tested. A square is tested by rows (`guard_rows`).
 use rules::Fault;
 ghost use mathlib.Core.Path.{_≡_};
 ghost use mathlib.Core.Bool.{not, _||_};
@@ -9,7 +9,7 @@ ghost use lib.ListN.{length};
 ghost use mathlib.Core.List.{List};
 ghost use Rattle.rules.specs.Tables.{at, lend};
 ghost use Rattle.rules.specs.Numbers.{fault, noFault, refuseIf, scan, square, nowhereShort, outside, countFault, networkSizes, planSizes, orderFault, startFault, networkFault, lentFault, packFault};
-ghost use Rattle.squares.specs.Cells.{badCell};
+ghost use Rattle.guard_rows.specs.Cells.{badCell};
 
 // No test but 8 says how many slots short (RULES 17).
 pub fn refused(number: usize, place: usize) -> Fault
@@ -126,7 +126,7 @@ fn square_fault(n: usize, guards: &[u8], mirror: bool, number: usize) -> Fault
 {
     let mut i: usize = 0;
     while i < n {
-        let j = squares::row_fault(n, i, guards, mirror);
+        let j = guard_rows::row_fault(n, i, guards, mirror);
         if j < n {
             return refused(number, rules::PATHS * i + j);
         }

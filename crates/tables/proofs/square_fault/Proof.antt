@@ -5,7 +5,7 @@ use native.Mathlib.Omega.{arith}
 use borrow.Author.Needs.{needs}
 use borrow.Author.Count.{below-none, below-more}
 use Rattle.rules.specs.Scan.{found}
-use Rattle.squares.specs.Cells.{badCell}
+use Rattle.guard_rows.specs.Cells.{badCell}
 use Rattle.rules.specs.Numbers.{nowhereShort}
 use Rattle.table_laws.specs.Faults.{square-rows, square-hit, row-miss}
 use Rattle.tables.proofs.square_fault.Statement.{statement}

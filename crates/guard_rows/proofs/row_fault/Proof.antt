@@ -1,6 +1,6 @@
 use borrow.Author.Needs.{needs}
-use Rattle.squares.proofs.row_fault.Statement.{statement}
-use Rattle.squares.proofs.row_fault.Tie as tie
+use Rattle.guard_rows.proofs.row_fault.Statement.{statement}
+use Rattle.guard_rows.proofs.row_fault.Tie as tie
 
 mirror-row-requires : tie.Need-mirror-row-requires
 mirror-row-requires c κs = search needs

@@ -8,7 +8,7 @@ ghost use lib.ListN.{length};
 ghost use Rattle.rules.specs.Tables.{at, cell};
 ghost use Rattle.rules.specs.Scan.{first};
 ghost use Rattle.rules.specs.Numbers.{badGuard, badMirror};
-ghost use Rattle.squares.specs.Cells.{badCell};
+ghost use Rattle.guard_rows.specs.Cells.{badCell};
 
 // 4, of one cell: neither a guard of 0 to 32 nor 255, or on the diagonal another value than 255.
 fn bad_guard(i: usize, j: usize, g: u8) -> bool

@@ -6,9 +6,9 @@ use borrow.Author.Needs.{needs}
 use borrow.Author.Count.{below-more}
 use Rattle.rules.specs.Numbers.{badMirror}
 use Rattle.table_laws.specs.Scans.{first-none, first-at}
-use Rattle.squares.proofs.Tests.{mirror-before, mirror-same, mirror-other}
-use Rattle.squares.proofs.mirror_search.Statement.{statement}
-use Rattle.squares.proofs.mirror_search.Tie as tie
+use Rattle.guard_rows.proofs.Tests.{mirror-before, mirror-same, mirror-other}
+use Rattle.guard_rows.proofs.mirror_search.Statement.{statement}
+use Rattle.guard_rows.proofs.mirror_search.Tie as tie
 
 abbrev Inv-loop : tie.InvT-loop
 Inv-loop n i guards j₀ j = (i < j) × ((j ≤ n) × ((k : ℕ) → k < j → badMirror guards i k ≡ false))

@@ -1,6 +1,6 @@
 use borrow.Author.Tests.{eq-eqb, ne-eqb}
-use Rattle.squares.proofs.bad_guard.Statement.{statement}
-use Rattle.squares.proofs.bad_guard.Tie as tie
+use Rattle.guard_rows.proofs.bad_guard.Statement.{statement}
+use Rattle.guard_rows.proofs.bad_guard.Tie as tie
 
 returns : tie.Need-returns
 returns c = simp (eq-eqb _ _ (c .if1 .taken))

@@ -4,8 +4,8 @@ use native.Mathlib.Omega.{arith}
 use borrow.Author.Needs.{needs}
 use borrow.Author.Count.{below-none, below-more}
 use Rattle.rules.specs.Tables.{at, cell}
-use Rattle.squares.proofs.row_top.Statement.{statement}
-use Rattle.squares.proofs.row_top.Tie as tie
+use Rattle.guard_rows.proofs.row_top.Statement.{statement}
+use Rattle.guard_rows.proofs.row_top.Tie as tie
 
 abbrev Inv-loop : tie.InvT-loop
 Inv-loop n i guards top₀ j₀ top j = (j ≤ n) × ((k : ℕ) → k < j → top ≤ 33 → (at guards (cell i k) ≡ 255 → ⊥) → at guards (cell i k) ≤ 32)

@@ -3,10 +3,10 @@ use mathlib.Core.Path.{_≡_, sym, subst}
 use Rattle.rules.specs.Tables.{at, cell}
 use Rattle.rules.specs.Numbers.{badGuard}
 use Rattle.table_laws.specs.Scans.{first-none}
-use Rattle.squares.proofs.Tests.{guard-right}
+use Rattle.guard_rows.proofs.Tests.{guard-right}
 use borrow.Author.Needs.{needs}
-use Rattle.squares.proofs.guard_row.Statement.{statement}
-use Rattle.squares.proofs.guard_row.Tie as tie
+use Rattle.guard_rows.proofs.guard_row.Statement.{statement}
+use Rattle.guard_rows.proofs.guard_row.Tie as tie
 
 row-top-requires : tie.Need-row-top-requires
 row-top-requires c κs = search needs

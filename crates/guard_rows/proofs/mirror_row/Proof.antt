@@ -2,8 +2,8 @@ use mathlib.Core.Path.{sym}
 use Rattle.rules.specs.Numbers.{badMirror}
 use Rattle.table_laws.specs.Scans.{first-none}
 use borrow.Author.Needs.{needs}
-use Rattle.squares.proofs.mirror_row.Statement.{statement}
-use Rattle.squares.proofs.mirror_row.Tie as tie
+use Rattle.guard_rows.proofs.mirror_row.Statement.{statement}
+use Rattle.guard_rows.proofs.mirror_row.Tie as tie
 
 row-apart-requires : tie.Need-row-apart-requires
 row-apart-requires c κs = search needs

@@ -5,9 +5,9 @@ use native.Mathlib.Omega.{arith}
 use borrow.Author.Needs.{needs}
 use borrow.Author.Count.{below-more}
 use Rattle.rules.specs.Numbers.{badMirror}
-use Rattle.squares.proofs.Tests.{mirror-before, mirror-same}
-use Rattle.squares.proofs.row_apart.Statement.{statement}
-use Rattle.squares.proofs.row_apart.Tie as tie
+use Rattle.guard_rows.proofs.Tests.{mirror-before, mirror-same}
+use Rattle.guard_rows.proofs.row_apart.Statement.{statement}
+use Rattle.guard_rows.proofs.row_apart.Tie as tie
 
 abbrev Inv-loop : tie.InvT-loop
 Inv-loop n i guards most₀ j₀ most j = (i < j) × ((j ≤ n) × ((k : ℕ) → k < j → most ≡ 0 → badMirror guards i k ≡ false))

@@ -6,8 +6,8 @@ use borrow.Author.Needs.{needs}
 use borrow.Author.Count.{below-none, below-more}
 use Rattle.rules.specs.Numbers.{badGuard}
 use Rattle.table_laws.specs.Scans.{first-none, first-at}
-use Rattle.squares.proofs.guard_search.Statement.{statement}
-use Rattle.squares.proofs.guard_search.Tie as tie
+use Rattle.guard_rows.proofs.guard_search.Statement.{statement}
+use Rattle.guard_rows.proofs.guard_search.Tie as tie
 
 abbrev Inv-loop : tie.InvT-loop
 Inv-loop n i guards j₀ j = (j ≤ n) × ((k : ℕ) → k < j → badGuard guards i k ≡ false)
