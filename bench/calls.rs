@@ -37,7 +37,7 @@ const ON_ANY: [(&str, Work); 8] = [
     ("better", |net, _| done(library::better(net, &net.orders[0], &net.orders[1]))),
     ("improve, 1,000 rounds", |net, _| done(library::improve(net, &net.orders[0], 1000))),
     ("plan, 1,000 rounds", |net, _| done(library::plan(net, 1000))),
-    ("floor, one path", |net, _| done(library::floor(net, black_box(&[0])))),
+    ("floor", |net, _| done(library::floor(net, black_box(&[0])))),
 ];
 
 const ON_LINES: [(&str, Work); 2] = [

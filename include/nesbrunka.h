@@ -240,7 +240,7 @@ nesbrunka_planned nesbrunka_improve(size_t n,
                                     uint32_t seed, size_t rounds);
 
 /* The floor of a list of 1 to 8 paths, each two in conflict: their widths and the guards along the
-   shortest walk through them. Every valid plan reaches it, so a plan whose highest slot it is is a
+   shortest walk through them. Every valid plan reaches it, so a plan with that highest slot is a
    best one. Tests 2, 1, 3, 4, 5, 15. Writes nothing. */
 nesbrunka_floored nesbrunka_floor(size_t n,
                                   const uint16_t *widths, size_t widths_length,

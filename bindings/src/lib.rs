@@ -262,7 +262,7 @@ pub fn improve(
 }
 
 /// The floor of a list of 1 to 8 paths, each two in conflict: their widths and the guards along the
-/// shortest walk through them. Every valid plan reaches it, so a plan whose highest slot it is is a
+/// shortest walk through them. Every valid plan reaches it, so a plan with that highest slot is a
 /// best one.
 ///
 /// Tests in this order: 2, 1, 3, 4, 5, 15.
