@@ -23,7 +23,7 @@ use Rattle.rules.specs.declared.Why.{Why}
 use Rattle.rules.specs.Tables.{at, cleared, Lent, clearedNetwork}
 use Rattle.rules.specs.Limits.{Network}
 use Rattle.rules.specs.Scan.{sum}
-use Rattle.rules.specs.Plan.{netOf}
+use Rattle.rules.specs.Plan.{netOf, highest, Valid}
 use Rattle.rules.specs.Packing.{Order, Once}
 use Rattle.rules.specs.Floor.{coarseFloor}
 use Rattle.rules.specs.Better.{Bettered}
@@ -31,11 +31,13 @@ use Rattle.rules.specs.Calls.{Left, judging, packing, pressing, explaining, sid
 use Rattle.rules.specs.Figures.{netT, three}
 use Rattle.demands.specs.Witness.{netTwo, netOne, onePath, labelA, answers, betterT, differs, cellsT}
 use Rattle.table_laws.specs.Scans.{sum-same}
+use Rattle.table_laws.specs.Orders.{own-order}
 use Rattle.table_laws.specs.Limits.{network-within, order-once, once-order}
 use Rattle.plan_laws.specs.Answers.{Packable, improving-packable, packable-improves}
 use Rattle.plan_laws.specs.Runs.{runAfter, run-kept}
 use Rattle.demands.specs.OnImproving.{improving-highest, improving-kept}
-use Rattle.demands.specs.OnFlooring.{stacked}
+use Rattle.demands.specs.Met.{Between}
+use Rattle.demands.specs.OnFlooring.{stacked, flooring-met}
 
 -- entry k of a list of numbers that were computed
 entry : {xs ys : List ℕ} (k : ℕ) → xs ≡ ys → at xs k ≡ at ys k
@@ -265,6 +267,33 @@ fixed-unfit program meets fixed =
 listT : Table
 listT = 0 ∷ 1 ∷ 2 ∷ []
 
+-- each of three numbers
+of-three : (P : ℕ → Type 0) → P 0 → P 1 → P 2 → (k : ℕ) → k < 3 → P k
+of-three P x y z zero l = x
+of-three P x y z (suc zero) l = y
+of-three P x y z (suc (suc zero)) l = z
+of-three P x y z (suc (suc (suc k))) l = absurd (omega arith)
+
+-- no guard of T reaches past a path in between, so that a valid plan meets its floor, which is the best then
+pub betweenT : Between (netOf netT) 3
+betweenT a b c h l g ab bc ac = of-three (λ a. (c : ℕ) → c < 3 → a ≢ c → (b : ℕ) → b < 3 → Room a b c)
+    (of-three (λ c. 0 ≢ c → (b : ℕ) → b < 3 → Room 0 b c) (λ ne. absurd (ne refl)) (λ ne. of-three (λ b. Room 0 b 1) (omega (arith, cells)) (omega (arith, cells)) (omega (arith, cells))) (λ ne. of-three (λ b. Room 0 b 2) (omega (arith, cells)) (omega (arith, cells)) (omega (arith, cells))))
+    (of-three (λ c. 1 ≢ c → (b : ℕ) → b < 3 → Room 1 b c) (λ ne. of-three (λ b. Room 1 b 0) (omega (arith, cells)) (omega (arith, cells)) (omega (arith, cells))) (λ ne. absurd (ne refl)) (λ ne. of-three (λ b. Room 1 b 2) (omega (arith, cells)) (omega (arith, cells)) (omega (arith, cells))))
+    (of-three (λ c. 2 ≢ c → (b : ℕ) → b < 3 → Room 2 b c) (λ ne. of-three (λ b. Room 2 b 0) (omega (arith, cells)) (omega (arith, cells)) (omega (arith, cells))) (λ ne. of-three (λ b. Room 2 b 1) (omega (arith, cells)) (omega (arith, cells)) (omega (arith, cells))) (λ ne. absurd (ne refl))) a h c g ac b l
+  where
+    guard : ℕ → ℕ → ℕ
+    guard i j = netOf netT .guard i j
+
+    Room : ℕ → ℕ → ℕ → Type 0
+    Room a b c = netOf netT .guard a c ≤ netOf netT .guard a b + netOf netT .width b + netOf netT .guard b c
+
+    cells : (guard 0 1 ≡ 1) × (guard 1 2 ≡ 2) × (guard 0 2 ≡ 0) × (guard 2 1 ≡ 2) × (guard 2 0 ≡ 0) × (guard 1 0 ≡ 1) × (netOf netT .width 0 ≡ 2)
+    cells = (entry 1 cellsT, entry 2 cellsT, entry 3 cellsT, entry 4 cellsT, entry 5 cellsT, entry 6 cellsT, entry 7 cellsT)
+
+pub metT : (plan : ℕ → ℕ) × Valid (netOf netT) 3 plan × (highest (netOf netT) plan 3 ≡ 10)
+unfolding listT
+metT = let m = flooring-met 3 netT listT (entry 6 answers) refl betweenT in (m .0, m .1, m .2 ∙ entry 13 differs)
+
 -- the paths of T, one above another in an order
 stackedT : (o : ℕ → ℕ) (a b c : ℕ) → o 0 ≡ a → o 1 ≡ b → o 2 ≡ c
     → stacked (netOf netT) listT o ≡ 9 + (netOf netT .guard (at listT a) (at listT b) + netOf netT .guard (at listT b) (at listT c))
@@ -301,7 +330,7 @@ module _ (program : ℕ × Lent × Table → Floored) (meets : Meets program flo
   pub longest-unfit : ((g : ℕ × Lent × Table) → program g .number ≡ 0 → (order : ℕ → ℕ) → Once order (length (g .2)) → stacked (netOf (g .1)) (g .2) order ≤ program g .floor) → ⊥
   unfolding given listT
   longest-unfit most =
-      let own : Once (λ i. i) 3 = order-once (λ i. i) 3 (record { inside = λ i l. l; fresh = λ i j h l e. omega arith }) in
+      let own : Once (λ i. i) 3 = order-once (λ i. i) 3 (own-order 3) in
       let e = tells (λ g x. (order : ℕ → ℕ) → Once order (length (g .2)) → stacked (netOf (g .1)) (g .2) order ≤ x) most (λ i. i) own in
       omega (arith, e, stackedT (λ i. i) 0 1 2 refl refl refl, entry 1 cellsT, entry 2 cellsT)
 

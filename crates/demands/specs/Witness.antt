@@ -85,6 +85,6 @@ unfolding withGuard widthsT guardsT netT three cleared first found firstRow foun
 differs = refl
 
 -- T's widths and guards: added, and one by one
-pub cellsT : (sum (λ i. netOf netT .width (at (0 ∷ 1 ∷ 2 ∷ []) i)) 3 ∷ netOf netT .guard 0 1 ∷ netOf netT .guard 1 2 ∷ netOf netT .guard 0 2 ∷ netOf netT .guard 2 1 ∷ netOf netT .guard 2 0 ∷ []) ≡ 9 ∷ 1 ∷ 2 ∷ 0 ∷ 2 ∷ 0 ∷ []
+pub cellsT : (sum (λ i. netOf netT .width (at (0 ∷ 1 ∷ 2 ∷ []) i)) 3 ∷ netOf netT .guard 0 1 ∷ netOf netT .guard 1 2 ∷ netOf netT .guard 0 2 ∷ netOf netT .guard 2 1 ∷ netOf netT .guard 2 0 ∷ netOf netT .guard 1 0 ∷ netOf netT .width 0 ∷ []) ≡ 9 ∷ 1 ∷ 2 ∷ 0 ∷ 2 ∷ 0 ∷ 1 ∷ 2 ∷ []
 unfolding withGuard widthsT guardsT netT cleared sum
 cellsT = refl

@@ -13,7 +13,7 @@ use Rattle.rules.specs.Floor.{walkLength, leastOrder, shortest}
 use Rattle.table_laws.specs.Count.{each-suc}
 use Rattle.table_laws.specs.Scans.{least-le, least-at, sum-same}
 use Rattle.table_laws.specs.Tables.{at-same, at-other, cleared-length}
-use Rattle.table_laws.specs.Orders.{placed-none, placed-not, place, spot, spot-holds, spots, order-more}
+use Rattle.table_laws.specs.Orders.{placed-none, placed-not, place, spot, spot-holds, spots, own-order, order-more}
 use Rattle.table_laws.specs.Limits.{order-once}
 
 module _ (cost : (ℕ → ℕ) → ℕ) (bid k : ℕ) (same : (r s : ℕ → ℕ) → ((i : ℕ) → i < k → r i ≡ s i) → cost r ≡ cost s) where
@@ -52,27 +52,30 @@ module _ (cost : (ℕ → ℕ) → ℕ) (bid k : ℕ) (same : (r s : ℕ → ℕ
       go (inl z) deeper = inl z
       go (inr (j, l, z)) deeper = rw z (pick j (placed (at o) m j) refl (deeper j l))
 
--- two orders that agree have the same walk
-walk-same : (guard : ℕ → ℕ → ℕ) (k : ℕ) (r s : ℕ → ℕ) → ((i : ℕ) → i < k → r i ≡ s i) → walkLength guard k r ≡ walkLength guard k s
+-- two walks with the same steps have the same length
+walk-same : (guard other : ℕ → ℕ → ℕ) (r s : ℕ → ℕ) (k : ℕ) → ((i : ℕ) → suc i < k → guard (r i) (r (suc i)) ≡ other (s i) (s (suc i))) → walkLength guard k r ≡ walkLength other k s
 unfolding walkLength
-walk-same guard k r s h = sum-same _ _ (k - 1) (λ i l. rw (h i (omega arith), h (suc i) (omega arith)))
+walk-same guard other r s k h = sum-same _ _ (k - 1) (λ i l. h i (omega arith))
 
 module _ (guard : ℕ → ℕ → ℕ) (k : ℕ) where
+  by-entries : (r s : ℕ → ℕ) → ((i : ℕ) → i < k → r i ≡ s i) → walkLength guard k r ≡ walkLength guard k s
+  by-entries r s h = walk-same guard guard r s k (λ i l. rw (h i (omega arith), h (suc i) l))
+
   room : k ≤ length (cleared k 0)
   room = omega (arith, cleared-length k 0)
 
   -- the shortest walk is no longer than any other, and some order has it
   pub shortest-le : (r : ℕ → ℕ) → Order r k k → shortest guard k ≤ walkLength guard k r
   unfolding shortest
-  shortest-le r ord = least-order-le (walkLength guard k) (walkLength guard k (λ i. i)) k (walk-same guard k) k 0 (cleared k 0) (omega arith) room r ord (λ i l. absurd (omega arith))
+  shortest-le r ord = least-order-le (walkLength guard k) (walkLength guard k (λ i. i)) k by-entries k 0 (cleared k 0) (omega arith) room r ord (λ i l. absurd (omega arith))
 
   pub shortest-at : (r : ℕ → ℕ) × Order r k k × (shortest guard k ≡ walkLength guard k r)
   unfolding shortest
-  shortest-at = go (least-order-at (walkLength guard k) (walkLength guard k (λ i. i)) k (walk-same guard k) k 0 (cleared k 0) (omega arith) room
+  shortest-at = go (least-order-at (walkLength guard k) (walkLength guard k (λ i. i)) k by-entries k 0 (cleared k 0) (omega arith) room
       record { inside = λ i l. absurd (omega arith); fresh = λ i j h l. absurd (omega arith) })
     where
       go : (shortest guard k ≡ walkLength guard k (λ i. i)) ⊎ ((r : ℕ → ℕ) × Order r k k × (shortest guard k ≡ walkLength guard k r)) → (r : ℕ → ℕ) × Order r k k × (shortest guard k ≡ walkLength guard k r)
-      go (inl e) = ((λ i. i), record { inside = λ i l. l; fresh = λ i j h l e. omega arith }, e)
+      go (inl e) = ((λ i. i), own-order k, e)
       go (inr x) = x
 
   -- nothing else is so
@@ -88,7 +91,7 @@ shortest-same guard other k h =
     shortest-is other k (shortest guard k) (λ r ord. rw (sym (agree r ord)) (shortest-le guard k r ord)) (s .0) (s .1) (s .2 ∙ agree (s .0) (s .1))
   where
     agree : (r : ℕ → ℕ) → Order r k k → walkLength guard k r ≡ walkLength other k r
-    agree r ord = unfold walkLength in sum-same _ _ (k - 1) (λ i l. h (r i) (r (suc i)) (ord .inside i (omega arith)) (ord .inside (suc i) (omega arith)))
+    agree r ord = walk-same guard other r r k (λ i l. h (r i) (r (suc i)) (ord .inside i (omega arith)) (ord .inside (suc i) l))
 
 -- an order of an order
 pub turned-order : (turn r : ℕ → ℕ) (k : ℕ) → Order turn k k → Order r k k → Order (λ i. turn (r i)) k k
@@ -98,10 +101,6 @@ turned-order turn r k ord o =
       inside = λ i l. ord .inside (r i) (o .inside i l);
       fresh = λ i j h l e. o .fresh i j h l (once .once (r i) (r j) (o .inside i (omega arith)) (o .inside j l) (ord .inside (r i) (o .inside i (omega arith))) e);
     }
-
-turned-walk : (guard : ℕ → ℕ → ℕ) (turn r s : ℕ → ℕ) (k : ℕ) → ((i : ℕ) → i < k → turn (r i) ≡ s i) → walkLength (λ i j. guard (turn i) (turn j)) k r ≡ walkLength guard k s
-unfolding walkLength
-turned-walk guard turn r s k h = sum-same _ _ (k - 1) (λ i l. rw (h i (omega arith), h (suc i) (omega arith)))
 
 -- the shortest walk is the same in whatever order the list is given
 pub shortest-turned : (guard : ℕ → ℕ → ℕ) (k : ℕ) (turn : ℕ → ℕ) → Order turn k k → shortest (λ i j. guard (turn i) (turn j)) k ≡ shortest guard k
@@ -114,16 +113,17 @@ shortest-turned guard k turn ord = omega (arith, up, down)
     down =
         let s = shortest-at turned k in
         let r : ℕ → ℕ = λ i. turn (s .0 i) in
-        omega (arith, s .2, turned-walk guard turn (s .0) r k (λ i l. refl), shortest-le guard k r (turned-order turn (s .0) k ord (s .1)))
+        omega (arith, s .2, walk-same turned guard (s .0) r k (λ i l. refl), shortest-le guard k r (turned-order turn (s .0) k ord (s .1)))
 
     up : shortest turned k ≤ shortest guard k
     up =
         let s = shortest-at guard k in
         let holds = place turn k ord in
         let r : ℕ → ℕ = λ i. spot turn k (s .0 i) in
+        let back : (i : ℕ) → i < k → turn (r i) ≡ s .0 i = λ i l. spot-holds turn k holds (s .0 i) (s .1 .inside i l) .1 in
         omega (
           arith,
           s .2,
-          turned-walk guard turn r (s .0) k (λ i l. spot-holds turn k holds (s .0 i) (s .1 .inside i l) .1),
+          walk-same turned guard r (s .0) k (λ i l. rw (back i (omega arith), back (suc i) l)),
           shortest-le turned k r (turned-order (spot turn k) (s .0) k (spots turn k holds) (s .1)),
         )

@@ -221,10 +221,6 @@ pub sum-many : (f : ℕ → ℕ) (i m : ℕ) → i ≤ m → ((j : ℕ) → j < 
 sum-many f i m l h = omega (arith, sum-rises f i m l, sum-ones f i h)
 
 -- for the code: one index more
-pub least-next : (d : ℕ) (f : ℕ → ℕ) (n r v : ℕ) → r ≡ least d f n → v ≡ f n → min r v ≡ least d f (suc n)
-unfolding least
-least-next d f n r v e g = rw (e, g)
-
 pub sum-suc : (f : ℕ → ℕ) (k : ℕ) → sum f (k + 1) ≡ sum f k + f k
 unfolding sum
 sum-suc f k = rw (add-one k)

@@ -13,7 +13,7 @@ use Rattle.rules.specs.Packing.{Order, placed}
 use Rattle.rules.specs.Floor.{walkLength, shortest}
 use Rattle.table_laws.specs.Scans.{found-at, least-le, least-at, sum-front}
 use Rattle.table_laws.specs.Count.{count-le, count-some}
-use Rattle.table_laws.specs.Orders.{placed-not, count-placed}
+use Rattle.table_laws.specs.Orders.{placed-not, count-placed, own-order}
 use Rattle.plan_laws.specs.Walks.{shortest-is}
 use Rattle.walks.specs.Sets.{power, has, members, power-le, has-taken, has-all, members-have, members-all}
 
@@ -164,11 +164,8 @@ module _ (guard : ℕ → ℕ → ℕ) (k : ℕ) where
           let w = whole i o m t in
           shortest-is guard k r (λ x ord. unfold walkLength in below x ord) o (rw last at (rw w at (t .order))) (unfold walkLength in (rw w at q))
 
-      own : Order (λ i. i) k k
-      own = record { inside = λ i l. l; fresh = λ a b h l z. omega arith }
-
       go : (least 255 row 8 ≡ 255) ⊎ ((i : ℕ) × (i < 8) × (least 255 row 8 ≡ row i)) → r ≡ shortest guard k
-      go (inl z) = absurd (omega (arith, below (λ i. i) own))
+      go (inl z) = absurd (omega (arith, below (λ i. i) (own-order k)))
       go (inr (i, h, z)) =
-          let x = rows i h .some (omega (arith, below (λ i. i) own)) in
+          let x = rows i h .some (omega (arith, below (λ i. i) (own-order k))) in
           reached i (x .0) (x .1) (x .2) (e ∙ z ∙ x .3)
