@@ -21,7 +21,7 @@ use Rattle.rules.specs.Writing.{labelOf, hasPlan}
 use Rattle.rules.specs.Numbers.{noFault, _orElse_, badStart, sizeFault, startFault, clashFault, pathFault, square, refuseIf, planSizes, judgeFault, whyFault}
 use Rattle.rules.specs.Calls.{Left, left, donePacked, packing, judging, refusedWhy, doneWhy, explaining}
 use Rattle.rules.specs.Program.{refusalText, onSheet, printed}
-use Rattle.rules.specs.Asking.{slotsText, reasonText, validText, clashText, noPlanText, unknownText, refusedText, whyText, judgeText, isWhole, whyWord, judgeWord, asked}
+use Rattle.rules.specs.Asking.{slotsText, reasonText, validText, clashText, noPlanText, unknownText, refusedText, whyText, judgeText, isWhole, whyWord, judgeWord, withOne, asked}
 use Rattle.table_laws.specs.Scans.{found-not}
 use Rattle.table_laws.specs.Tables.{cleared-length}
 use Rattle.table_laws.specs.Faults.{or-first, or-second, or-clear, refuse-bad, scan-at, size-good}
@@ -69,7 +69,7 @@ unfolding asked isWhole word
 judge-asked second input = refl
 
 why-asked : (name input : List ℕ) → isWhole (label name) ≡ true → asked 2 whyWord name input ≡ onSheet refusalText (whyText name) input
-unfolding asked isWhole word
+unfolding asked withOne isWhole word
 why-asked name input e = rw e
 
 -- what is said by a number

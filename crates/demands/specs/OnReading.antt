@@ -15,7 +15,7 @@ use Rattle.rules.specs.declared.Fault.{Fault}
 use Rattle.rules.specs.declared.SheetRead.{SheetRead}
 use Rattle.rules.specs.Tables.{at, cleared, Lent, lend, clearedNetwork}
 use Rattle.rules.specs.Text.{Parsed, none, some, then, run, label, pathsWord, guardsWord, startsWord}
-use Rattle.rules.specs.Sheet.{Line, wrong, right, Section, halt, done, lines, countLine, pathLine, guardLine, pathMeans, guardMeans, startMeans, pathStep, guardStep, startStep, counted, after, ended, startsPart, guardsPart, sheetFrom}
+use Rattle.rules.specs.Sheet.{Line, wrong, right, Section, halt, done, lines, countLine, pathLine, guardLine, pathMeans, guardMeans, startMeans, pathStep, guardStep, startStep, counted, after, ended, lastPart, startsPart, guardsPart, sheetFrom}
 use Rattle.rules.specs.Writing.{countText}
 use Rattle.rules.specs.Numbers.{fault, noFault, refuseIf, _orElse_, sizeFault, networkSizes, labelSizes, sheetSizes}
 use Rattle.rules.specs.Calls.{Left, left, readOutcome, reading}
@@ -23,7 +23,7 @@ use Rattle.table_laws.specs.Faults.{refuse-bad, refuse-not, or-first, or-second
 use Rattle.table_laws.specs.Limits.{clear-of}
 use Rattle.table_laws.specs.Chains.{sizes-clear}
 use Rattle.plan_laws.specs.Answers.{unless-done, unless-refused}
-use Rattle.sheet_laws.specs.Lines.{starts-none, starts-ill, starts-count, starts-halt, guards-ill, guards-many, guards-halt, guards-rest, sheet-ill, sheet-few, sheet-many, sheet-halt, sheet-later, sheet-done}
+use Rattle.sheet_laws.specs.Lines.{starts-none, starts-some, part-ill, part-count, part-halt, guards-ill, guards-many, guards-halt, guards-rest, sheet-ill, sheet-few, sheet-many, sheet-halt, sheet-later, sheet-done}
 use Rattle.sheet_laws.specs.Writes.{count-length}
 use Rattle.demands.specs.Forms.{CountForm, count-form, form-count}
 use Rattle.demands.specs.OnLines.{PathSays, form, labelTwice, width, fine, GuardSays, unknown, itself, pairTwice, over, StartSays, other, path-says, guard-says, start-says, FirstRight, start, LinesSay, stops, ends, lines-say, lines-only}
@@ -118,7 +118,7 @@ sheetRead l = sheetFrom (cleared 1024 0) clearedNetwork (cleared 128 0) l
 -- the starts, once their lines are right: nothing may come after them
 starts-end : (n line : ℕ) (labels starts l₄ l₅ l₆ : List ℕ) → countLine startsWord l₄ ≡ some n l₅ → 0 < length l₄
     → lines (startStep labels) (line + 1) n 0 (cleared 128 0) l₅ ≡ done starts l₆ → startsPart n line labels (cleared 128 0) l₄ ≡ ended (line + 1 + n) starts l₆
-unfolding startsPart counted after
+unfolding startsPart lastPart counted after
 starts-end n line labels starts [] l₅ l₆ e some-byte f = absurd (omega arith)
 starts-end n line labels starts (y ∷ u) l₅ l₆ e some-byte f = rw (e, eq-eqb n n refl, f)
 
@@ -180,13 +180,16 @@ module _ (l : List ℕ) where
       (guards-halt n labels (cleared 16384 255) (cleared 128 0) l₂ m l₃ (form-count guardsWord l₂ m l₃ c) b z (n + 3 + k)
       (lines-only (guardStep n labels) (n + 3) (cleared 16384 255) l₃ m _ (stops k t l₄ z h f e)))
   wrong-only x y (startsForm n labels widths m guards z r g h) =
-      starts-halt-sheet n labels widths m guards (z ∷ r) g 11 (n + m + 3) (starts-ill n (n + m + 3) labels (cleared 128 0) (z ∷ r) 0 (omega arith) (none-count startsWord (z ∷ r) h))
+      starts-halt-sheet n labels widths m guards (z ∷ r) g 11 (n + m + 3) (starts-some n (n + m + 3) labels (cleared 128 0) (z ∷ r) 0 (omega arith)
+      ∙ part-ill startsWord (startStep labels) n (n + m + 3) (cleared 128 0) (z ∷ r) 0 (none-count startsWord (z ∷ r) h))
   wrong-only x y (startsCount n labels widths m guards [] g c r f h) = absurd (omega (arith, ap length (f .text), length-append (countText startsWord c) r, count-length startsWord c))
   wrong-only x y (startsCount n labels widths m guards (z ∷ u) g c r f h) =
-      starts-halt-sheet n labels widths m guards (z ∷ u) g 1 (n + m + 3) (starts-count n (n + m + 3) labels (cleared 128 0) (z ∷ u) 0 (omega arith) c r (form-count startsWord (z ∷ u) c r f) h)
+      starts-halt-sheet n labels widths m guards (z ∷ u) g 1 (n + m + 3) (starts-some n (n + m + 3) labels (cleared 128 0) (z ∷ u) 0 (omega arith)
+      ∙ part-count startsWord (startStep labels) n (n + m + 3) (cleared 128 0) (z ∷ u) 0 c r (form-count startsWord (z ∷ u) c r f) h)
   wrong-only x y (startLineWrong n labels widths m guards k t l₆ z h s e) =
       starts-halt-sheet n labels widths m guards (s .l₄) (s .guarded) z (n + m + 3 + 1 + k)
-      (starts-halt n (n + m + 3) labels (cleared 128 0) (s .l₄) 0 (some-text n labels widths m guards k t l₆ s) n (s .l₅) (counted-is n labels widths m guards k t l₆ s) refl z (n + m + 3 + 1 + k)
+      (starts-some n (n + m + 3) labels (cleared 128 0) (s .l₄) 0 (some-text n labels widths m guards k t l₆ s)
+      ∙ part-halt startsWord (startStep labels) n (n + m + 3) (cleared 128 0) (s .l₄) 0 n (s .l₅) (counted-is n labels widths m guards k t l₆ s) refl z (n + m + 3 + 1 + k)
       (lines-only (startStep labels) (n + m + 3 + 1) (cleared 128 0) (s .l₅) n _ (stops k t l₆ z h (s .each) e)))
   wrong-only x y (leftOver n labels widths m guards starts z r s) =
       starts-halt-sheet n labels widths m guards (s .l₄) (s .guarded) 11 (n + m + 3 + 1 + n)

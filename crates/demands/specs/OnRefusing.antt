@@ -230,7 +230,7 @@ module _ (n : ℕ) (labels : List ℕ) (lent : Lent) (starts text : List ℕ) wh
   unfolding labelSizes
   label-sizes-give = two-sizes labels starts 1024 128
 
-  room-gives : Gives (roomTest n labels lent starts text ∷ []) (refuseIf (ltb (length text) (length (sheetText n labels lent starts))) 16 0)
+  room-gives : Gives (roomTest (sheetText n labels lent starts) text ∷ []) (refuseIf (ltb (length text) (length (sheetText n labels lent starts))) 16 0)
   room-gives = refuse-gives 16 _ (ltb (length text) (length (sheetText n labels lent starts))) (omega arith) (tells-lt _ _)
 
   write-gives : Gives (writeTests n labels lent starts text) (writeFault n labels lent starts text)
@@ -251,5 +251,5 @@ module _ (n : ℕ) (labels : List ℕ) (lent : Lent) (starts text : List ℕ) wh
   writing-gives =
       silent-gives (λ (r : Left SheetWritten (List ℕ)). r .answer .number) (λ (r : Left SheetWritten (List ℕ)). r .answer .place)
       (writeTests n labels lent starts text) (writeFault n labels lent starts text) _ _ refl refl refl refl
-      (lent-silent n lent _ (labelTest n labels ∷ labelTwiceTest n labels ∷ pairsTest n (lent .guards) ∷ writtenStartTest n starts ∷ roomTest n labels lent starts text ∷ [])
+      (lent-silent n lent _ (labelTest n labels ∷ labelTwiceTest n labels ∷ pairsTest n (lent .guards) ∷ writtenStartTest n starts ∷ roomTest (sheetText n labels lent starts) text ∷ [])
       (unsaid, (unsaid, tt)) (unsaid, (unsaid, (unsaid, (unsaid, (unsaid, tt)))))) write-gives

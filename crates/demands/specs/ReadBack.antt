@@ -14,7 +14,7 @@ use borrow.Author.Tests.{ltb-true, leb-true, le-ltb, eqb-false, ne-eqb, not-true
 use Rattle.rules.specs.Tables.{at, cell, cleared, labelByte, Lent, lend, clearedNetwork}
 use Rattle.rules.specs.Scan.{first, found, sum}
 use Rattle.rules.specs.Text.{Parsed, none, some, then, pathsWord, guardsWord, startsWord, isDigit, isLabelByte, run, label, number}
-use Rattle.rules.specs.Sheet.{isRow, find, bytesFrom, putRow, Line, wrong, right, Section, halt, done, follow, lines, countLine, pathLine, guardLine, pathMeans, pathStep, guardCell, guardMeans, guardStep, startMeans, startStep, counted, after, ended, startsPart, guardsPart, sheetFrom}
+use Rattle.rules.specs.Sheet.{isRow, find, bytesFrom, putRow, Line, wrong, right, Section, halt, done, follow, lines, countLine, pathLine, guardLine, pathMeans, pathStep, guardCell, guardMeans, guardStep, startMeans, startStep, counted, after, ended, lastPart, startsPart, guardsPart, sheetFrom}
 use Rattle.rules.specs.Writing.{labelOf, badLabel, labelTwice, isPair, pairs, hasPlan}
 use Rattle.rules.specs.Numbers.{sheetSizes}
 use Rattle.rules.specs.declared.SheetRead.{SheetRead}
@@ -416,7 +416,7 @@ pub record PlanRead (n : ℕ) (t : List ℕ) : Type 0 where
   pub planned : hasPlan n t ≡ true → (k : ℕ) → k < n → (1 ≤ at t k) × (at t k ≤ 16384)
 
 starts-part : (n line : ℕ) (labels l t l′ : List ℕ) → n ≤ 128 → startsPart n line labels (cleared 128 0) l ≡ done t l′ → PlanRead n t
-unfolding startsPart
+unfolding startsPart lastPart
 starts-part n line labels [] t l′ few e =
     let q : cleared 128 0 ≡ t = cc in
     subst (PlanRead n) q record {
@@ -564,7 +564,7 @@ start-named labels k t l = go (pathLine l)
         by true true = tt
 
 starts-named : (n line : ℕ) (labels starts l : List ℕ) → Named (startsPart n line labels starts l)
-unfolding startsPart
+unfolding startsPart lastPart
 starts-named n line labels starts [] = tt
 starts-named n line labels starts (x ∷ l) =
     counted-named (countLine startsWord (x ∷ l)) (λ m. eqb m n) line _

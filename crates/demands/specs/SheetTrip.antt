@@ -19,7 +19,7 @@ use Rattle.rules.specs.Numbers.{sheetSizes, writeFault}
 use Rattle.rules.specs.Calls.{Left, left, unless, readOutcome, reading, writing}
 use Rattle.table_laws.specs.Scans.{found-not}
 use Rattle.table_laws.specs.Tables.{cleared-length, cleared-at}
-use Rattle.sheet_laws.specs.Lines.{starts-none, starts-done, guards-rest, sheet-done}
+use Rattle.sheet_laws.specs.Lines.{starts-none, starts-some, part-done, guards-rest, sheet-done}
 use Rattle.sheet_laws.specs.Writes.{count-length}
 use Rattle.demands.specs.Writable.{Writable, writing-writable, clear-write}
 use Rattle.demands.specs.Kept.{front, front-in, front-past, keptCells, keptLabels, cells-is, cells-none, labels-none}
@@ -60,7 +60,8 @@ module _ (n : ℕ) (labels : List ℕ) (lent : Lent) (starts : List ℕ) (ok : W
           ∙ ap (λ (l : List ℕ). lines (startStep (keptLabels n labels)) (line + 1) n 0 (keptCells 0 starts) l) (sym (append-nil J))
           ∙ starts-back n labels lent starts ok e (line + 1) []
           ∙ ap (λ (l : List ℕ). done (keptCells n starts) l) (sym (drop-length s)) in
-          starts-done n line (keptLabels n labels) (cleared 128 0) s 0 long n J (count-trip startsWord n J (omega arith)) refl (keptCells n starts) (length s) back (omega arith)
+          starts-some n line (keptLabels n labels) (cleared 128 0) s 0 long
+          ∙ part-done startsWord (startStep (keptLabels n labels)) n line (cleared 128 0) s 0 n J (count-trip startsWord n J (omega arith)) refl (keptCells n starts) (length s) back (omega arith)
           ∙ ap (λ (l : List ℕ). done (keptCells n starts) l) (drop-length s)
 
       go : (b : Bool) → hasPlan n starts ≡ b → startsPart n line (keptLabels n labels) (cleared 128 0) (cond b (countText startsWord n ++ J) []) ≡ done (keptCells n starts) []

@@ -13,7 +13,7 @@ use Rattle.rules.specs.Sides.{touches, opposite, marks, isHigh, sameMark, hasSi
 use Rattle.rules.specs.Planning.{draw, drawnPlace, swapped, stateAfter, tried, round, rounds, improved}
 use Rattle.rules.specs.Floor.{walkLength, leastOrder, shortest, floor, leastGuard, coarseFloor}
 use Rattle.rules.specs.Text.{bytes, then, word, isDigit, isLabelByte, run, label, isPlain, valueFrom, number, spell, numeral}
-use Rattle.rules.specs.Sheet.{isRow, find, bytesFrom, putRow, follow, lines, lastField, countLine, pathLine, guardLine, pathMeans, pathStep, guardCell, guardMeans, guardStep, startMeans, startStep, counted, after, ended, startsPart, guardsPart, sheetFrom}
+use Rattle.rules.specs.Sheet.{isRow, find, bytesFrom, putRow, follow, lines, lastField, countLine, pathLine, guardLine, pathMeans, pathStep, guardCell, guardMeans, guardStep, startMeans, startStep, counted, after, ended, lastPart, startsPart, guardsPart, sheetFrom}
 use Rattle.rules.specs.Writing.{labelOf, badLabel, labelTwice, isPair, pairs, hasPlan, joinFrom, countText, pathText, guardText, pathsText, guardsText, startsText, sheetText}
 use Rattle.rules.specs.Numbers.{refuseIf, _orElse_, scan, square, countFault, sizeFault, orderFault, startFault, clashFault, sidesFault, roundsFault, listFault, networkFault, networkSizes, lentFault, planSizes, judgeFault, pathFault, whyFault, packFault, twoSidesFault, planFault, improveFault, floorFault, labelSizes, sheetSizes, writeFault}
 use Rattle.rules.specs.Calls.{unless, judging, refusedPacked, donePacked, packing, refusedPressed, donePressed, pressing, refusedWhy, doneWhy, explaining, siding, refusedPlanned, donePlanned, doneImproved, improving, donePlan, planning, flooring, readOutcome, reading, writing}
@@ -53,11 +53,11 @@ pub answers :
     ∷ explaining 3 netT (three 20 10 30) 1 (cleared 128 0) .answer .number
     ∷ [])
     ≡ 0 ∷ 0 ∷ 0 ∷ 0 ∷ 0 ∷ 0 ∷ 0 ∷ 0 ∷ 0 ∷ 0 ∷ 0 ∷ 0 ∷ 0 ∷ 0 ∷ 0 ∷ []
-unfolding netTwo netOne onePath labelA withGuard widthsT guardsT netT three cleared first found firstRow foundPair largest least sum highest isLower short tooClose placed reach lowest packed height picked choose arranged pressed touches opposite marks isHigh sameMark hasSides twoSided lowSide draw drawnPlace swapped stateAfter tried round rounds improved walkLength leastOrder shortest floor refuseIf _orElse_ scan square countFault sizeFault orderFault startFault clashFault sidesFault roundsFault listFault networkFault networkSizes lentFault planSizes judgeFault pathFault whyFault packFault twoSidesFault planFault improveFault floorFault unless judging refusedPacked donePacked packing refusedPressed donePressed pressing isBelow holdsUp link isLast chainOf chain bottom down refusedWhy doneWhy explaining siding refusedPlanned donePlanned doneImproved improving flooring then word isDigit isLabelByte run label isPlain valueFrom number spell numeral isRow find bytesFrom putRow follow lines lastField countLine pathLine guardLine pathMeans pathStep guardCell guardMeans guardStep startMeans startStep counted after ended startsPart guardsPart sheetFrom labelOf badLabel labelTwice isPair pairs hasPlan joinFrom countText pathText guardText pathsText guardsText startsText sheetText labelSizes sheetSizes writeFault donePlan planning readOutcome reading writing refusalText plannedText printed comparing packedAnswer
+unfolding netTwo netOne onePath labelA withGuard widthsT guardsT netT three cleared first found firstRow foundPair largest least sum highest isLower short tooClose placed reach lowest packed height picked choose arranged pressed touches opposite marks isHigh sameMark hasSides twoSided lowSide draw drawnPlace swapped stateAfter tried round rounds improved walkLength leastOrder shortest floor refuseIf _orElse_ scan square countFault sizeFault orderFault startFault clashFault sidesFault roundsFault listFault networkFault networkSizes lentFault planSizes judgeFault pathFault whyFault packFault twoSidesFault planFault improveFault floorFault unless judging refusedPacked donePacked packing refusedPressed donePressed pressing isBelow holdsUp link isLast chainOf chain bottom down refusedWhy doneWhy explaining siding refusedPlanned donePlanned doneImproved improving flooring then word isDigit isLabelByte run label isPlain valueFrom number spell numeral isRow find bytesFrom putRow follow lines lastField countLine pathLine guardLine pathMeans pathStep guardCell guardMeans guardStep startMeans startStep counted after ended lastPart startsPart guardsPart sheetFrom labelOf badLabel labelTwice isPair pairs hasPlan joinFrom countText pathText guardText pathsText guardsText startsText sheetText labelSizes sheetSizes writeFault donePlan planning readOutcome reading writing refusalText plannedText printed comparing packedAnswer
 answers = refl
 
 pub betterT : comparing 3 netT (three 0 1 2) (three 1 0 2) ≡ 2
-unfolding withGuard widthsT guardsT netT three cleared first found firstRow foundPair largest least sum highest isLower short tooClose placed reach lowest packed height picked choose arranged pressed touches opposite marks isHigh sameMark hasSides twoSided lowSide draw drawnPlace swapped stateAfter tried round rounds improved walkLength leastOrder shortest floor refuseIf _orElse_ scan square countFault sizeFault orderFault startFault clashFault sidesFault roundsFault listFault networkFault networkSizes lentFault planSizes judgeFault pathFault whyFault packFault twoSidesFault planFault improveFault floorFault unless judging refusedPacked donePacked packing refusedPressed donePressed pressing isBelow holdsUp link isLast chainOf chain bottom down refusedWhy doneWhy explaining siding refusedPlanned donePlanned doneImproved improving flooring then word isDigit isLabelByte run label isPlain valueFrom number spell numeral isRow find bytesFrom putRow follow lines lastField countLine pathLine guardLine pathMeans pathStep guardCell guardMeans guardStep startMeans startStep counted after ended startsPart guardsPart sheetFrom labelOf badLabel labelTwice isPair pairs hasPlan joinFrom countText pathText guardText pathsText guardsText startsText sheetText labelSizes sheetSizes writeFault donePlan planning readOutcome reading writing refusalText plannedText printed comparing packedAnswer
+unfolding withGuard widthsT guardsT netT three cleared first found firstRow foundPair largest least sum highest isLower short tooClose placed reach lowest packed height picked choose arranged pressed touches opposite marks isHigh sameMark hasSides twoSided lowSide draw drawnPlace swapped stateAfter tried round rounds improved walkLength leastOrder shortest floor refuseIf _orElse_ scan square countFault sizeFault orderFault startFault clashFault sidesFault roundsFault listFault networkFault networkSizes lentFault planSizes judgeFault pathFault whyFault packFault twoSidesFault planFault improveFault floorFault unless judging refusedPacked donePacked packing refusedPressed donePressed pressing isBelow holdsUp link isLast chainOf chain bottom down refusedWhy doneWhy explaining siding refusedPlanned donePlanned doneImproved improving flooring then word isDigit isLabelByte run label isPlain valueFrom number spell numeral isRow find bytesFrom putRow follow lines lastField countLine pathLine guardLine pathMeans pathStep guardCell guardMeans guardStep startMeans startStep counted after ended lastPart startsPart guardsPart sheetFrom labelOf badLabel labelTwice isPair pairs hasPlan joinFrom countText pathText guardText pathsText guardsText startsText sheetText labelSizes sheetSizes writeFault donePlan planning readOutcome reading writing refusalText plannedText printed comparing packedAnswer
 betterT = refl
 
 -- two orders of T pack to different highest slots and different starts, a plan of T is pressed to another,
@@ -81,7 +81,7 @@ pub differs :
     ∷ coarseFloor (netOf netT) (at (0 ∷ 1 ∷ 2 ∷ [])) 3
     ∷ [])
     ≡ 12 ∷ 10 ∷ 1 ∷ 6 ∷ 6 ∷ 11 ∷ 10 ∷ 8 ∷ 3 ∷ 8 ∷ 1 ∷ 3 ∷ 9 ∷ 10 ∷ 9 ∷ []
-unfolding withGuard widthsT guardsT netT three cleared first found firstRow foundPair largest least sum highest isLower short tooClose placed reach lowest packed height picked choose arranged pressed touches opposite marks isHigh sameMark hasSides twoSided lowSide draw drawnPlace swapped stateAfter tried round rounds improved walkLength leastOrder shortest floor leastGuard coarseFloor refuseIf _orElse_ scan square countFault sizeFault orderFault startFault clashFault sidesFault roundsFault listFault networkFault networkSizes lentFault planSizes judgeFault pathFault whyFault packFault twoSidesFault planFault improveFault floorFault unless judging refusedPacked donePacked packing refusedPressed donePressed pressing isBelow holdsUp link isLast chainOf chain bottom down refusedWhy doneWhy explaining siding refusedPlanned donePlanned doneImproved improving flooring then word isDigit isLabelByte run label isPlain valueFrom number spell numeral isRow find bytesFrom putRow follow lines lastField countLine pathLine guardLine pathMeans pathStep guardCell guardMeans guardStep startMeans startStep counted after ended startsPart guardsPart sheetFrom labelOf badLabel labelTwice isPair pairs hasPlan joinFrom countText pathText guardText pathsText guardsText startsText sheetText labelSizes sheetSizes writeFault donePlan planning readOutcome reading writing refusalText plannedText printed comparing packedAnswer
+unfolding withGuard widthsT guardsT netT three cleared first found firstRow foundPair largest least sum highest isLower short tooClose placed reach lowest packed height picked choose arranged pressed touches opposite marks isHigh sameMark hasSides twoSided lowSide draw drawnPlace swapped stateAfter tried round rounds improved walkLength leastOrder shortest floor leastGuard coarseFloor refuseIf _orElse_ scan square countFault sizeFault orderFault startFault clashFault sidesFault roundsFault listFault networkFault networkSizes lentFault planSizes judgeFault pathFault whyFault packFault twoSidesFault planFault improveFault floorFault unless judging refusedPacked donePacked packing refusedPressed donePressed pressing isBelow holdsUp link isLast chainOf chain bottom down refusedWhy doneWhy explaining siding refusedPlanned donePlanned doneImproved improving flooring then word isDigit isLabelByte run label isPlain valueFrom number spell numeral isRow find bytesFrom putRow follow lines lastField countLine pathLine guardLine pathMeans pathStep guardCell guardMeans guardStep startMeans startStep counted after ended lastPart startsPart guardsPart sheetFrom labelOf badLabel labelTwice isPair pairs hasPlan joinFrom countText pathText guardText pathsText guardsText startsText sheetText labelSizes sheetSizes writeFault donePlan planning readOutcome reading writing refusalText plannedText printed comparing packedAnswer
 differs = refl
 
 -- T's widths and guards: added, and one by one

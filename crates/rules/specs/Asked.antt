@@ -10,13 +10,14 @@ use Rattle.rules.specs.Tables.{cleared, Lent, lend}
 use Rattle.rules.specs.Scan.{first, found, firstRow, foundPair, largest, sum}
 use Rattle.rules.specs.Plan.{highest, isLower, short, tooClose}
 use Rattle.rules.specs.Reason.{isBelow, holdsUp, link, isLast, chainOf, chain, bottom, down}
-use Rattle.rules.specs.Text.{bytes, then, word, isDigit, isLabelByte, run, label, isPlain, valueFrom, number, spell, numeral}
-use Rattle.rules.specs.Sheet.{isRow, find, bytesFrom, putRow, follow, lines, lastField, countLine, pathLine, guardLine, pathMeans, pathStep, guardCell, guardMeans, guardStep, startMeans, startStep, counted, after, ended, startsPart, guardsPart, sheetFrom}
-use Rattle.rules.specs.Writing.{labelOf, joinFrom}
-use Rattle.rules.specs.Numbers.{refuseIf, _orElse_, scan, square, countFault, sizeFault, pathFault, startFault, clashFault, networkFault, networkSizes, lentFault, planSizes, judgeFault, whyFault, labelSizes, sheetSizes}
-use Rattle.rules.specs.Calls.{Left, unless, judging, refusedWhy, doneWhy, explaining, readOutcome, reading}
+use Rattle.rules.specs.Text.{bytes, then, word, isDigit, isLabelByte, run, label, isPlain, valueFrom, number, spell, numeral, belowZero, signed, signedNumeral}
+use Rattle.rules.specs.Sheet.{isRow, find, bytesFrom, putRow, follow, lines, lastField, countLine, pathLine, guardLine, pathMeans, pathStep, guardCell, guardMeans, guardStep, startMeans, startStep, counted, after, ended, lastPart, startsPart, guardsPart, sheetFrom}
+use Rattle.rules.specs.Writing.{labelOf, badLabel, labelTwice, joinFrom, countText}
+use Rattle.rules.specs.Grid.{gridNumber, orderLineText, orderText}
+use Rattle.rules.specs.Numbers.{refuseIf, _orElse_, scan, square, countFault, sizeFault, pathFault, startFault, clashFault, networkFault, networkSizes, lentFault, planSizes, judgeFault, whyFault, labelSizes, sheetSizes, anchorFault, orderReadFault, orderWriteFault}
+use Rattle.rules.specs.Calls.{Left, unless, judging, refusedWhy, doneWhy, explaining, readOutcome, reading, orderWriting}
 use Rattle.rules.specs.Program.{refusalText, onSheet}
-use Rattle.rules.specs.Asking.{slotsText, blockText, standsText, linkText, endText, reasonText, validText, clashText, noPlanText, unknownText, refusedText, whyText, judgeText, isWhole, noLabelText, badLabelText, wordsText, asked}
+use Rattle.rules.specs.Asking.{slotsText, blockText, standsText, linkText, endText, reasonText, validText, clashText, noPlanText, unknownText, refusedText, whyText, judgeText, orderedText, isWhole, noLabelText, badLabelText, noAnchorText, badAnchorText, wordsText, orderAsked, withOne, asked}
 use Rattle.rules.specs.Figures.{withGuard, widthsT, guardsT, netT, three}
 
 -- six paths. 0 and 1 both hold 2 up, 2 and 3 both hold 4 up, and 5 stands on 4
@@ -110,6 +111,21 @@ spoken :
     ∷ ask 1 "why" "" "starts 2\n"
     ∷ ask 2 "why" "a9" "starts 2\n"
     ∷ ask 1 "judged" "" "starts 2\n"
+    ∷ ask 2 "order" "-6" planned
+    ∷ ask 2 "order" "1024" planned
+    ∷ ask 2 "order" "-1024" planned
+    ∷ ask 2 "order" "0" ""
+    ∷ ask 2 "order" "0" "starts 3\n0417 1\n417 3\nA9 10\n"
+    ∷ ask 2 "order" "0" "starts 2\n"
+    ∷ ask 1 "order" "" "starts 2\n"
+    ∷ ask 2 "order" "1025" "starts 2\n"
+    ∷ ask 2 "order" "-1025" planned
+    ∷ ask 2 "order" "-0" planned
+    ∷ ask 2 "order" "+1" planned
+    ∷ ask 2 "order" "5 " planned
+    ∷ ask 2 "order" "" planned
+    ∷ ask 3 "order" "0" planned
+    ∷ ask 2 "orders" "0" planned
     ∷ [])
     ≡ bytes "417 has slots 4 to 7.\nBelow it 0417 has slots 1 to 2, and the guard is 1.\n0417 is in slot 1, so 417 cannot come down in this order.\n"
     ∷ bytes "0417 has slots 1 to 2.\n0417 is in slot 1 and cannot come down.\n"
@@ -125,19 +141,34 @@ spoken :
     ∷ bytes "refused 1 line 8\n"
     ∷ bytes "refused 7 line 9\n"
     ∷ bytes "Say which path: why LABEL.\n"
-    ∷ bytes "The words are why and judge.\n"
+    ∷ bytes "The words are why, judge and order.\n"
     ∷ bytes "A label has 1 to 8 capitals, digits or hyphens.\n"
     ∷ bytes "A label has 1 to 8 capitals, digits or hyphens.\n"
     ∷ bytes "A label has 1 to 8 capitals, digits or hyphens.\n"
     ∷ bytes "A label has 1 to 8 capitals, digits or hyphens.\n"
-    ∷ bytes "The words are why and judge.\n"
-    ∷ bytes "The words are why and judge.\n"
-    ∷ bytes "The words are why and judge.\n"
-    ∷ bytes "The words are why and judge.\n"
-    ∷ bytes "The words are why and judge.\n"
+    ∷ bytes "The words are why, judge and order.\n"
+    ∷ bytes "The words are why, judge and order.\n"
+    ∷ bytes "The words are why, judge and order.\n"
+    ∷ bytes "The words are why, judge and order.\n"
+    ∷ bytes "The words are why, judge and order.\n"
     ∷ bytes "Say which path: why LABEL.\n"
     ∷ bytes "A label has 1 to 8 capitals, digits or hyphens.\n"
-    ∷ bytes "The words are why and judge.\n"
+    ∷ bytes "The words are why, judge and order.\n"
+    ∷ bytes "order 3\n0417 -4 2\n417 4 4\nA9 13 1\n"
+    ∷ bytes "order 3\n0417 1026 2\n417 1034 4\nA9 1043 1\n"
+    ∷ bytes "order 3\n0417 -1022 2\n417 -1014 4\nA9 -1005 1\n"
+    ∷ bytes "The sheet has no plan.\n"
+    ∷ bytes "0417 and 417 clash: 1 slot short.\n"
+    ∷ bytes "refused 1 line 8\n"
+    ∷ bytes "Say the anchor: order ANCHOR.\n"
+    ∷ bytes "An anchor is a whole number, -1024 to 1024.\n"
+    ∷ bytes "An anchor is a whole number, -1024 to 1024.\n"
+    ∷ bytes "An anchor is a whole number, -1024 to 1024.\n"
+    ∷ bytes "An anchor is a whole number, -1024 to 1024.\n"
+    ∷ bytes "An anchor is a whole number, -1024 to 1024.\n"
+    ∷ bytes "An anchor is a whole number, -1024 to 1024.\n"
+    ∷ bytes "The words are why, judge and order.\n"
+    ∷ bytes "The words are why, judge and order.\n"
     ∷ []
-unfolding sheet ask planned cleared first found firstRow foundPair largest sum highest isLower short tooClose isBelow holdsUp link isLast chainOf chain bottom down then word isDigit isLabelByte run label isPlain valueFrom number spell numeral isRow find bytesFrom putRow follow lines lastField countLine pathLine guardLine pathMeans pathStep guardCell guardMeans guardStep startMeans startStep counted after ended startsPart guardsPart sheetFrom labelOf joinFrom refuseIf _orElse_ scan square countFault sizeFault pathFault startFault clashFault networkFault networkSizes lentFault planSizes judgeFault whyFault labelSizes sheetSizes unless judging refusedWhy doneWhy explaining readOutcome reading refusalText onSheet slotsText blockText standsText linkText endText reasonText validText clashText noPlanText unknownText refusedText whyText judgeText isWhole noLabelText badLabelText wordsText asked
+unfolding sheet ask planned cleared first found firstRow foundPair largest sum highest isLower short tooClose isBelow holdsUp link isLast chainOf chain bottom down then word isDigit isLabelByte run label isPlain valueFrom number spell numeral belowZero signed signedNumeral isRow find bytesFrom putRow follow lines lastField countLine pathLine guardLine pathMeans pathStep guardCell guardMeans guardStep startMeans startStep counted after ended lastPart startsPart guardsPart sheetFrom labelOf badLabel labelTwice joinFrom countText gridNumber orderLineText orderText refuseIf _orElse_ scan square countFault sizeFault pathFault startFault clashFault networkFault networkSizes lentFault planSizes judgeFault whyFault labelSizes sheetSizes anchorFault orderReadFault orderWriteFault unless judging refusedWhy doneWhy explaining readOutcome reading orderWriting refusalText onSheet slotsText blockText standsText linkText endText reasonText validText clashText noPlanText unknownText refusedText whyText judgeText orderedText isWhole noLabelText badLabelText noAnchorText badAnchorText wordsText orderAsked withOne asked
 spoken = refl

@@ -5,15 +5,17 @@ use mathlib.Core.Bool.{Bool, true, false, cond, _&&_}
 use mathlib.Core.List.{List, [], _∷_, _++_}
 use lib.ListN.{length, take}
 use lib.Dec.{eqb}
+use lib.IntN.{ℤ}
 use Rattle.rules.specs.declared.Fault.{Fault}
 use Rattle.rules.specs.declared.Why.{Why}
 use Rattle.rules.specs.Tables.{at, cleared, Lent}
 use Rattle.rules.specs.Plan.{Net, netOf, end, highest}
 use Rattle.rules.specs.Reason.{last}
-use Rattle.rules.specs.Text.{Parsed, none, some, bytes, word, label, numeral}
+use Rattle.rules.specs.Text.{Parsed, none, some, bytes, word, orderWord, label, numeral, signed}
 use Rattle.rules.specs.Sheet.{find}
 use Rattle.rules.specs.Writing.{labelOf, joinFrom}
-use Rattle.rules.specs.Calls.{Left, judging, explaining}
+use Rattle.rules.specs.Numbers.{anchorFault}
+use Rattle.rules.specs.Calls.{Left, judging, explaining, orderWriting}
 use Rattle.rules.specs.Program.{refusalText, onSheet}
 
 -- so many slots
@@ -69,8 +71,8 @@ unfoldable pub refusedText : List ℕ → List ℕ → ℕ → ℕ → ℕ → L
 refusedText labels name number place short =
     cond (eqb number 6) (unknownText name) (cond (eqb number 8) (clashText labels place short) noPlanText)
 
--- The answers, on a sheet that was read: why the path of a label stands where it stands; and whether the plan
--- is valid
+-- The answers, on a sheet that was read: why the path of a label stands where it stands; whether the plan is
+-- valid; and the order sheet of a valid plan (RULES 27), in room for the longest one
 unfoldable pub whyText : List ℕ → ℕ → List ℕ → Lent → List ℕ → List ℕ
 whyText name n labels lent starts =
     let r = explaining n lent starts (find labels n name) (cleared 128 0) in
@@ -84,6 +86,12 @@ judgeText n labels lent starts =
     let f = judging n lent starts in
     cond (eqb (f .number) 0) (validText (highest (netOf lent) (at starts) n)) (refusedText labels [] (f .number) (f .place) (f .short))
 
+unfoldable pub orderedText : ℤ → ℕ → List ℕ → Lent → List ℕ → List ℕ
+orderedText anchor n labels lent starts =
+    let f = judging n lent starts in
+    let written = orderWriting anchor n labels lent starts (cleared 2314 0) in
+    cond (eqb (f .number) 0) (take (written .answer .length) (written .tables)) (refusedText labels [] (f .number) (f .place) (f .short))
+
 -- nothing is left after a field
 unfoldable pub isWhole : {A : Type 0} → Parsed A → Bool
 isWhole (some a []) = true
@@ -96,21 +104,37 @@ whyWord = bytes "why"
 abbrev pub judgeWord : List ℕ
 judgeWord = bytes "judge"
 
--- What is said where nothing can be asked of a sheet: no label is given, what is given is none, or the word is
--- unknown
+-- What is said where nothing can be asked of a sheet: no label or anchor is given, what is given is none, or the
+-- word is unknown
 unfoldable pub noLabelText : List ℕ
 noLabelText = bytes "Say which path: why LABEL.\n"
 
 unfoldable pub badLabelText : List ℕ
 badLabelText = bytes "A label has 1 to 8 capitals, digits or hyphens.\n"
 
+unfoldable pub noAnchorText : List ℕ
+noAnchorText = bytes "Say the anchor: order ANCHOR.\n"
+
+unfoldable pub badAnchorText : List ℕ
+badAnchorText = bytes "An anchor is a whole number, -1024 to 1024.\n"
+
 unfoldable pub wordsText : List ℕ
-wordsText = bytes "The words are why and judge.\n"
+wordsText = bytes "The words are why, judge and order.\n"
+
+-- the order sheet from an anchor, which is all of an argument and is not refused 17
+unfoldable pub orderAsked : Parsed ℤ → List ℕ → List ℕ
+orderAsked (some anchor []) input = cond (eqb (anchorFault anchor .number) 0) (onSheet refusalText (orderedText anchor) input) badAnchorText
+orderAsked (some anchor (x ∷ l)) input = badAnchorText
+orderAsked none input = badAnchorText
+
+-- a word that takes one argument more: so many are given
+unfoldable pub withOne : ℕ → List ℕ → List ℕ → List ℕ
+withOne count missing answer = cond (eqb count 1) missing (cond (eqb count 2) answer wordsText)
 
 -- from the arguments, how many there are and the first two of them, and the input to what is printed
 unfoldable pub asked : ℕ → List ℕ → List ℕ → List ℕ → List ℕ
 asked count first second input =
     cond (isWhole (word whyWord first))
-    (cond (eqb count 1) noLabelText
-    (cond (eqb count 2) (cond (isWhole (label second)) (onSheet refusalText (whyText second) input) badLabelText) wordsText))
-    (cond (isWhole (word judgeWord first) && eqb count 1) (onSheet refusalText judgeText input) wordsText)
+    (withOne count noLabelText (cond (isWhole (label second)) (onSheet refusalText (whyText second) input) badLabelText))
+    (cond (isWhole (word orderWord first)) (withOne count noAnchorText (orderAsked (signed second) input))
+    (cond (isWhole (word judgeWord first) && eqb count 1) (onSheet refusalText judgeText input) wordsText))

@@ -2,10 +2,12 @@
 -- call changes no table, but for the reader (RULES 14), and its other numbers are 0, but for the slots short
 -- of 8. Assumes nothing.
 use Prim.Native.Nat.{ℕ}
-use mathlib.Core.Bool.{Bool, cond}
+use mathlib.Core.Bool.{Bool, false, cond}
 use mathlib.Core.List.{List, [], _++_}
 use lib.ListN.{length, drop}
 use lib.Dec.{eqb}
+use lib.IntN.{ℤ, pos}
+use lib.Ieee.{Float, fin}
 use Rattle.rules.specs.declared.Fault.{Fault}
 use Rattle.rules.specs.declared.Packed.{Packed}
 use Rattle.rules.specs.declared.Pressed.{Pressed}
@@ -15,6 +17,7 @@ use Rattle.rules.specs.declared.Floored.{Floored}
 use Rattle.rules.specs.declared.SheetRead.{SheetRead}
 use Rattle.rules.specs.declared.SheetWritten.{SheetWritten}
 use Rattle.rules.specs.declared.Why.{Why}
+use Rattle.rules.specs.declared.OrderRead.{OrderRead}
 use Rattle.rules.specs.Tables.{at, cleared, Lent, clearedNetwork}
 use Rattle.rules.specs.Plan.{Net, netOf, highest}
 use Rattle.rules.specs.Packing.{lowest, packed}
@@ -25,7 +28,8 @@ use Rattle.rules.specs.Planning.{Run, greedy, improved}
 use Rattle.rules.specs.Floor.{floor}
 use Rattle.rules.specs.Sheet.{Section, halt, done, sheetFrom}
 use Rattle.rules.specs.Writing.{sheetText}
-use Rattle.rules.specs.Numbers.{judgeFault, packFault, whyFault, twoSidesFault, planFault, improveFault, floorFault, sheetSizes, writeFault}
+use Rattle.rules.specs.Grid.{gridNumber, centreOf, orderText, orderFrom}
+use Rattle.rules.specs.Numbers.{judgeFault, packFault, whyFault, twoSidesFault, planFault, improveFault, floorFault, sheetSizes, writeFault, centreFault, orderReadFault, orderWriteFault}
 
 -- what a call leaves behind: its answer, and what then stands in the tables that it may write
 pub record Left (A T : Type 0) : Type 0 where
@@ -143,9 +147,40 @@ reading text labels lent starts =
 
 -- write(n, labels, widths, guards, starts, text), RULES 15, which writes the text, and nothing past the
 -- sheet's length
+abbrev pub refusedWritten : List ℕ → Fault → Left SheetWritten (List ℕ)
+refusedWritten text f = left (record { number = f .number; place = f .place; length = 0 }) text
+
+abbrev pub doneWritten : List ℕ → List ℕ → Left SheetWritten (List ℕ)
+doneWritten sheet text = left (record { number = 0; place = 0; length = length sheet }) (sheet ++ drop (length sheet) text)
+
 unfoldable pub writing : ℕ → List ℕ → Lent → List ℕ → List ℕ → Left SheetWritten (List ℕ)
 writing n labels lent starts text =
-    let sheet = sheetText n labels lent starts in
-    unless (writeFault n labels lent starts text)
-    (λ f. left (record { number = f .number; place = f .place; length = 0 }) text)
-    (left (record { number = 0; place = 0; length = length sheet }) (sheet ++ drop (length sheet) text))
+    unless (writeFault n labels lent starts text) (refusedWritten text) (doneWritten (sheetText n labels lent starts) text)
+
+-- centre(anchor, start, width), RULES 27, in GHz; refused, 0.0. centre_number(anchor, start, width) gives its number
+abbrev pub noCentre : Float
+noCentre = fin false 0 (pos 0)
+
+unfoldable pub centring : ℤ → ℕ → ℕ → Float
+centring anchor start width = unless (centreFault anchor start width) (λ _. noCentre) (centreOf (gridNumber anchor start width))
+
+unfoldable pub centreNumber : ℤ → ℕ → ℕ → ℕ
+centreNumber anchor start width = centreFault anchor start width .number
+
+-- order_write(anchor, n, labels, widths, guards, starts, text), which writes the text, and nothing past the order
+-- sheet's length
+unfoldable pub orderWriting : ℤ → ℕ → List ℕ → Lent → List ℕ → List ℕ → Left SheetWritten (List ℕ)
+orderWriting anchor n labels lent starts text =
+    unless (orderWriteFault anchor n labels lent starts text) (refusedWritten text)
+    (doneWritten (orderText anchor n labels (lent .widths) starts) text)
+
+-- order_read(anchor, text, n, labels, widths, guards, starts), which writes the first n starts. A line at fault
+-- leaves them all as they were
+unfoldable pub orderOutcome : List ℕ → Section (List ℕ) → Left OrderRead (List ℕ)
+orderOutcome starts (halt number line) = left (record { number = number; place = line }) starts
+orderOutcome starts (done t l) = left (record { number = 0; place = 0 }) t
+
+unfoldable pub orderReading : ℤ → List ℕ → ℕ → List ℕ → Lent → List ℕ → Left OrderRead (List ℕ)
+orderReading anchor text n labels lent starts =
+    unless (orderReadFault anchor n labels lent starts) (λ f. left (record { number = f .number; place = f .place }) starts)
+    (orderOutcome starts (orderFrom anchor n labels (lent .widths) starts text))

@@ -17,7 +17,7 @@ use Rattle.rules.specs.Sides.{touches, opposite, marks, isHigh, sameMark
 use Rattle.rules.specs.Planning.{greedy, draw, drawnPlace, swapped, stateAfter, tried, round, rounds, improved}
 use Rattle.rules.specs.Floor.{walkLength, leastOrder, shortest, floor, leastGuard, coarseFloor}
 use Rattle.rules.specs.Text.{bytes, then, word, isDigit, isLabelByte, run, label, isPlain, valueFrom, number, spell, numeral}
-use Rattle.rules.specs.Sheet.{isRow, find, bytesFrom, putRow, follow, lines, lastField, countLine, pathLine, guardLine, pathMeans, pathStep, guardCell, guardMeans, guardStep, startMeans, startStep, counted, after, ended, startsPart, guardsPart, sheetFrom}
+use Rattle.rules.specs.Sheet.{isRow, find, bytesFrom, putRow, follow, lines, lastField, countLine, pathLine, guardLine, pathMeans, pathStep, guardCell, guardMeans, guardStep, startMeans, startStep, counted, after, ended, lastPart, startsPart, guardsPart, sheetFrom}
 use Rattle.rules.specs.Writing.{labelOf, badLabel, labelTwice, isPair, pairs, hasPlan, joinFrom, countText, pathText, guardText, pathsText, guardsText, startsText, sheetText}
 use Rattle.rules.specs.Numbers.{refuseIf, _orElse_, scan, square, countFault, sizeFault, orderFault, startFault, clashFault, sidesFault, roundsFault, listFault, networkFault, networkSizes, lentFault, planSizes, judgeFault, packFault, twoSidesFault, planFault, improveFault, floorFault, labelSizes, sheetSizes, writeFault}
 use Rattle.rules.specs.Calls.{Left, unless, judging, refusedPacked, donePacked, packing, refusedPressed, donePressed, pressing, siding, refusedPlanned, donePlanned, doneImproved, improving, donePlan, planning, flooring, readOutcome, reading, writing}
@@ -143,5 +143,5 @@ worked : List ℕ
 worked = bytes "paths 3\n0417 2\n417 4\nA9 3\nguards 2\n0417 417 1\n417 A9 2\n"
 
 program : (printed worked ∷ printed (bytes "paths 1\nA 1\nguards 01\n") ∷ []) ≡ (worked ++ bytes "starts 3\n0417 1\n417 6\nA9 1\n") ∷ bytes "refused 11 line 3\n" ∷ []
-unfolding worked cleared first found firstRow foundPair largest least sum highest placed reach lowest packed height picked choose arranged touches opposite marks isHigh sameMark hasSides twoSided draw drawnPlace swapped stateAfter tried round rounds improved then word isDigit isLabelByte run label isPlain valueFrom number spell numeral isRow find bytesFrom putRow follow lines lastField countLine pathLine guardLine pathMeans pathStep guardCell guardMeans guardStep startMeans startStep counted after ended startsPart guardsPart sheetFrom labelOf badLabel labelTwice isPair pairs hasPlan joinFrom countText pathText guardText pathsText guardsText startsText sheetText refuseIf _orElse_ scan square countFault sizeFault roundsFault networkFault networkSizes lentFault planSizes planFault labelSizes sheetSizes writeFault unless refusedPlanned donePlanned doneImproved donePlan planning readOutcome reading writing refusalText plannedText onSheet printed
+unfolding worked cleared first found firstRow foundPair largest least sum highest placed reach lowest packed height picked choose arranged touches opposite marks isHigh sameMark hasSides twoSided draw drawnPlace swapped stateAfter tried round rounds improved then word isDigit isLabelByte run label isPlain valueFrom number spell numeral isRow find bytesFrom putRow follow lines lastField countLine pathLine guardLine pathMeans pathStep guardCell guardMeans guardStep startMeans startStep counted after ended lastPart startsPart guardsPart sheetFrom labelOf badLabel labelTwice isPair pairs hasPlan joinFrom countText pathText guardText pathsText guardsText startsText sheetText refuseIf _orElse_ scan square countFault sizeFault roundsFault networkFault networkSizes lentFault planSizes planFault labelSizes sheetSizes writeFault unless refusedPlanned donePlanned doneImproved donePlan planning readOutcome reading writing refusalText plannedText onSheet printed
 program = refl

@@ -16,6 +16,8 @@ pub mod Reason
 pub mod Text
 pub mod Sheet
 pub mod Writing
+-- The grid and the order sheet: RULES 27
+pub mod Grid
 -- The numbers and the order of the tests: RULES 17 and 18
 pub mod Numbers
 pub mod Refusing
@@ -25,6 +27,7 @@ pub mod Better
 -- The plan program, and the ask program: RULES 19 and 26
 pub mod Program
 pub mod Asking
--- The figures: RULES 20, 25 and 26
+-- The figures: RULES 20, and 25 to 27
 pub mod Figures
 pub mod Asked
+pub mod Ordered

@@ -5,6 +5,8 @@ use mathlib.Core.Bool.{Bool, cond, not, _&&_, _||_}
 use mathlib.Core.List.{List}
 use lib.ListN.{length}
 use lib.Dec.{ltb, leb, eqb}
+use lib.IntN.{ℤ, pos, negsuc}
+use lib.Signed.{ltZ}
 use Rattle.rules.specs.declared.Fault.{Fault}
 use Rattle.rules.specs.Tables.{at, cell, Lent}
 use Rattle.rules.specs.Scan.{first, found, firstRow, foundPair}
@@ -12,6 +14,7 @@ use Rattle.rules.specs.Plan.{Net, netOf, inConflict, short, tooClose}
 use Rattle.rules.specs.Packing.{placed}
 use Rattle.rules.specs.Sides.{hasSides}
 use Rattle.rules.specs.Writing.{badLabel, labelTwice, pairs, hasPlan, sheetText}
+use Rattle.rules.specs.Grid.{orderText}
 
 infixr 20 _orElse_
 abbrev pub fault : ℕ → ℕ → Fault
@@ -160,10 +163,33 @@ labelSizes labels starts = sizeFault labels 1024 orElse sizeFault starts 128
 unfoldable pub sheetSizes : List ℕ → Lent → List ℕ → Fault
 sheetSizes labels lent starts = networkSizes lent orElse labelSizes labels starts
 
+-- 16: a sheet does not fit into the lent text
+abbrev pub roomFault : List ℕ → List ℕ → Fault
+roomFault sheet text = refuseIf (ltb (length text) (length sheet)) 16 0
+
 -- RULES 18, the writer's tests. It tests the starts only where it writes them
 unfoldable pub writeFault : ℕ → List ℕ → Lent → List ℕ → List ℕ → Fault
 writeFault n labels lent starts text =
     lentFault n lent (labelSizes labels starts)
     orElse scan 11 (badLabel labels) n orElse scan 12 (labelTwice labels) n orElse refuseIf (ltb 2000 (pairs n (lent .guards))) 1 0
     orElse scan 7 (λ k. hasPlan n starts && badStart starts k) n
-    orElse refuseIf (ltb (length text) (length (sheetText n labels lent starts))) 16 0
+    orElse roomFault (sheetText n labels lent starts) text
+
+-- 17: an anchor outside -1,024 to 1,024
+unfoldable pub anchorFault : ℤ → Fault
+anchorFault anchor = refuseIf (ltZ anchor (negsuc 1023) || ltZ (pos 1024) anchor) 17 0
+
+-- the centre: 17, then 3 of the width, then 7 of the start
+unfoldable pub centreFault : ℤ → ℕ → ℕ → Fault
+centreFault anchor start width = anchorFault anchor orElse refuseIf (outside 1 64 width) 3 0 orElse refuseIf (outside 1 16384 start) 7 0
+
+-- what is tested of the tables before an order sheet is read: 17 after 2 and before 1
+unfoldable pub orderReadFault : ℤ → ℕ → List ℕ → Lent → List ℕ → Fault
+orderReadFault anchor n labels lent starts = lentFault n lent (labelSizes labels starts orElse anchorFault anchor)
+
+-- and before it is written: as of a sheet, save the pairs, and with a start for every path
+unfoldable pub orderWriteFault : ℤ → ℕ → List ℕ → Lent → List ℕ → List ℕ → Fault
+orderWriteFault anchor n labels lent starts text =
+    orderReadFault anchor n labels lent starts
+    orElse scan 11 (badLabel labels) n orElse scan 12 (labelTwice labels) n orElse startFault n starts
+    orElse roomFault (orderText anchor n labels (lent .widths) starts) text

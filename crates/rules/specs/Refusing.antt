@@ -7,11 +7,13 @@ use mathlib.Core.Logic.{_≢_, _⊎_}
 use mathlib.Core.Bool.{Bool}
 use mathlib.Core.List.{List, [], _∷_, _++_}
 use lib.ListN.{length}
+use lib.IntN.{ℤ, pos, _+ℤ_}
 use Rattle.rules.specs.declared.Fault.{Fault}
 use Rattle.rules.specs.Tables.{at, cell, Lent, labelByte}
 use Rattle.rules.specs.Plan.{Net, netOf, Conflict, past, Clear}
 use Rattle.rules.specs.Sides.{Split}
 use Rattle.rules.specs.Writing.{pairs, sheetText}
+use Rattle.rules.specs.Grid.{orderText}
 use Rattle.rules.specs.Numbers.{noFault}
 
 -- a test: its number, that something is at fault at a place, and that the place is short of so many slots
@@ -149,9 +151,13 @@ pairsTest n guards = once 1 (2000 < pairs n guards)
 abbrev pub writtenStartTest : ℕ → List ℕ → Test
 writtenStartTest n starts = each 7 n (λ k. ((i : ℕ) × (i < n) × (at starts i ≢ 0)) × Outside 1 16384 (at starts k))
 
--- 16: the sheet does not fit into the lent text
-abbrev pub roomTest : ℕ → List ℕ → Lent → List ℕ → List ℕ → Test
-roomTest n labels lent starts text = once 16 (length text < length (sheetText n labels lent starts))
+-- 16: a sheet does not fit into the lent text
+abbrev pub roomTest : List ℕ → List ℕ → Test
+roomTest sheet text = once 16 (length text < length sheet)
+
+-- 17: an anchor that is none of -1,024 to 1,024
+abbrev pub anchorTest : ℤ → Test
+anchorTest anchor = once 17 ((k : ℕ) → k ≤ 2048 → anchor +ℤ pos 1024 ≡ pos k → ⊥)
 
 -- The tests of each call, in their order. 2, 1, 3, 4, 5 are the same for all, but for 2 of the tables lent
 -- beside the network
@@ -187,4 +193,16 @@ floorTests n lent list = lentTests n lent [] ++ (lengthTest list ∷ memberTest 
 unfoldable pub writeTests : ℕ → List ℕ → Lent → List ℕ → List ℕ → List Test
 writeTests n labels lent starts text =
     lentTests n lent (sizeTest labels 1024 ∷ sizeTest starts 128 ∷ [])
-    ++ (labelTest n labels ∷ labelTwiceTest n labels ∷ pairsTest n (lent .guards) ∷ writtenStartTest n starts ∷ roomTest n labels lent starts text ∷ [])
+    ++ (labelTest n labels ∷ labelTwiceTest n labels ∷ pairsTest n (lent .guards) ∷ writtenStartTest n starts ∷ roomTest (sheetText n labels lent starts) text ∷ [])
+
+-- the centre, and the two calls of the order sheet: its reading goes on with the lines (RULES 27)
+unfoldable pub centreTests : ℤ → ℕ → ℕ → List Test
+centreTests anchor start width = anchorTest anchor ∷ once 3 (Outside 1 64 width) ∷ once 7 (Outside 1 16384 start) ∷ []
+
+unfoldable pub orderReadTests : ℤ → ℕ → List ℕ → Lent → List ℕ → List Test
+orderReadTests anchor n labels lent starts = lentTests n lent (sizeTest labels 1024 ∷ sizeTest starts 128 ∷ anchorTest anchor ∷ [])
+
+unfoldable pub orderWriteTests : ℤ → ℕ → List ℕ → Lent → List ℕ → List ℕ → List Test
+orderWriteTests anchor n labels lent starts text =
+    orderReadTests anchor n labels lent starts
+    ++ (labelTest n labels ∷ labelTwiceTest n labels ∷ startTest n starts ∷ roomTest (orderText anchor n labels (lent .widths) starts) text ∷ [])

@@ -111,12 +111,17 @@ unfoldable pub ended : {T : Type 0} → ℕ → T → List ℕ → Section T
 ended line t [] = done t []
 ended line t (x ∷ l) = halt 11 line
 
+-- the last section of a text, of which the count stands in the line given: it has to be n, and nothing may
+-- come after its n lines
+unfoldable pub lastPart : {T : Type 0} → List ℕ → (ℕ → T → List ℕ → Line T) → ℕ → ℕ → T → List ℕ → Section T
+lastPart w step n line t l =
+    counted (countLine w l) (λ m. eqb m n) line (λ m l₁.
+    after (lines step (line + 1) n 0 t l₁) (λ t′ l₂. ended (line + 1 + n) t′ l₂))
+
 -- the plan, where the text goes on: the count of the starts stands in the line given
 unfoldable pub startsPart : ℕ → ℕ → List ℕ → List ℕ → List ℕ → Section (List ℕ)
 startsPart n line labels starts [] = done starts []
-startsPart n line labels starts (x ∷ l) =
-    counted (countLine startsWord (x ∷ l)) (λ m. eqb m n) line (λ m l₁.
-    after (lines (startStep labels) (line + 1) n 0 starts l₁) (λ t l₂. ended (line + 1 + n) t l₂))
+startsPart n line labels starts (x ∷ l) = lastPart startsWord (startStep labels) n line starts (x ∷ l)
 
 -- the guards, at most 2,000 lines, and what follows them
 unfoldable pub guardsPart : ℕ → List ℕ → List ℕ → List ℕ → List ℕ → Section (List ℕ × List ℕ)

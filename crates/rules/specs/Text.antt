@@ -1,4 +1,4 @@
--- RULES 13, the fields of a sheet. A text is a list of bytes, and a field is taken off its front. Assumes
+-- RULES 13 and 27, the fields of a sheet. A text is a list of bytes, and a field is taken off its front. Assumes
 -- nothing.
 use Prim.Native.Nat.{ℕ, zero, suc, _+_, _-_, _*_, _/_, _%_}
 use Prim.Native.Char.{code}
@@ -7,6 +7,7 @@ use mathlib.Core.Bool.{Bool, cond, not, _&&_, _||_}
 use mathlib.Core.List.{List, [], _∷_, _++_}
 use lib.ListN.{length, getD, drop}
 use lib.Dec.{leb, ltb, eqb}
+use lib.IntN.{ℤ, pos, negsuc}
 
 -- a field with the text after it, or nothing: the text does not begin with such a field
 pub data Parsed (A : Type 0) : Type 0 where
@@ -45,6 +46,13 @@ guardsWord = bytes "guards"
 
 abbrev pub startsWord : List ℕ
 startsWord = bytes "starts"
+
+abbrev pub orderWord : List ℕ
+orderWord = bytes "order"
+
+-- what stands before a number below 0
+abbrev pub hyphen : List ℕ
+hyphen = bytes "-"
 
 -- the bytes of a number; and those of a label, with capitals and the hyphen
 unfoldable pub isDigit : ℕ → Bool
@@ -85,3 +93,18 @@ spell (suc k) v = cond (ltb v 10) ((48 + v) ∷ []) (spell k (v / 10) ++ ((48 + 
 
 unfoldable pub numeral : ℕ → List ℕ
 numeral v = spell 5 v
+
+-- a number that may lie below 0: then a hyphen stands before it. 0 has none
+unfoldable pub belowZero : Parsed ℕ → Parsed ℤ
+belowZero none = none
+belowZero (some zero l) = none
+belowZero (some (suc v) l) = some (negsuc v) l
+
+unfoldable pub signed : List ℕ → Parsed ℤ
+signed [] = none
+signed (x ∷ l) = cond (eqb x 45) (belowZero (number l)) (then (number (x ∷ l)) (λ v l₁. some (pos v) l₁))
+
+-- and as the writer spells it
+unfoldable pub signedNumeral : ℤ → List ℕ
+signedNumeral (pos v) = numeral v
+signedNumeral (negsuc v) = hyphen ++ numeral (suc v)

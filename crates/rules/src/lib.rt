@@ -27,6 +27,10 @@ pub const PAIRS_MOST: usize = 2000;
 
 pub const SHEET_MOST: usize = 45489;
 
+pub const ANCHOR_MOST: i32 = 1024;
+
+pub const ORDER_MOST: usize = 2314;
+
 // The numbers of the refusals. 0 is none.
 pub const REFUSED_COUNT: usize = 1;
 
@@ -59,6 +63,8 @@ pub const REFUSED_PAIR_TWICE: usize = 14;
 pub const REFUSED_LIST: usize = 15;
 
 pub const REFUSED_ROOM: usize = 16;
+
+pub const REFUSED_ANCHOR: usize = 17;
 
 // A refusal: its number and its place, 0 and 0 where nothing is at fault, and how many slots short the pair
 // is that 8 refuses, 0 beside every other number. Judging answers this alone.
@@ -130,10 +136,17 @@ pub struct SheetRead {
     pub n: usize,
 }
 
-// The writer answers the sheet's length.
+// The writers answer the sheet's length.
 #[repr(C)]
 pub struct SheetWritten {
     pub number: usize,
     pub place: usize,
     pub length: usize,
+}
+
+// An order sheet read: the starts stand in their table.
+#[repr(C)]
+pub struct OrderRead {
+    pub number: usize,
+    pub place: usize,
 }

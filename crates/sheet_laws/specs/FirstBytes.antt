@@ -14,7 +14,7 @@ use native.Mathlib.Nat.{add-zero, sub-zero, zero-sub, suc-sub-suc, pow-le-pow-ri
 use native.Mathlib.Omega.{arith}
 use Rattle.rules.specs.Tables.{at, cell, cleared, Lent, lend, clearedNetwork}
 use Rattle.rules.specs.Text.{Parsed, none, some, then, word, space, lineFeed, pathsWord, guardsWord, startsWord, isDigit, isLabelByte, run, label, isPlain, valueFrom, number}
-use Rattle.rules.specs.Sheet.{isRow, find, putRow, Line, wrong, right, Section, halt, done, follow, lines, lastField, countLine, pathLine, guardLine, pathMeans, pathStep, guardCell, guardMeans, guardStep, startMeans, startStep, counted, after, ended, startsPart, guardsPart, sheetFrom}
+use Rattle.rules.specs.Sheet.{isRow, find, putRow, Line, wrong, right, Section, halt, done, follow, lines, lastField, countLine, pathLine, guardLine, pathMeans, pathStep, guardCell, guardMeans, guardStep, startMeans, startStep, counted, after, ended, lastPart, startsPart, guardsPart, sheetFrom}
 use Rattle.rules.specs.Calls.{readOutcome, reading}
 use Rattle.sheet_laws.specs.Texts.{digit-bounds, run-more, run-head}
 
@@ -345,20 +345,33 @@ ended-alike line t l l′ f = rw (f .same) (ended-front line t l (f .kept) (f .e
 nothing : Front 0 [] []
 nothing = record { kept = 0; enough = omega arith; same = refl }
 
+-- the last section: a word of at most w bytes, and n lines of at most c bytes each
+last-alike-part : {T : Type 0} (word : List ℕ) (step : ℕ → T → List ℕ → Line T) (c : ℕ)
+    → ((k : ℕ) (t : T) (l l′ : List ℕ) (d : ℕ) → 1 ≤ d → Front (c + d) l l′ → AlikeLine d (step k t l) (step k t l′)) → (n line : ℕ) (t : T) (l l′ : List ℕ)
+    → 1 ≤ n → 1 ≤ c → n ≤ 128 → Front (length word + (n * c + 6)) l l′ → AlikeSection 0 (lastPart word step n line t l) (lastPart word step n line t l′)
+unfolding lastPart
+last-alike-part word step c h n line t l l′ low wide high f =
+    let some : 1 ≤ n * c = product n c low wide in
+    counted-alike (Rest (n * c + 5)) 0 (countLine word l) (countLine word l′) (λ m. eqb m n) line _
+    (count-alike word l l′ (n * c + 5) (omega arith) (less (length word + (1 + (n * c + 5))) (length word + (n * c + 6)) l l′ (omega arith) f))
+    (λ m r r′ e g.
+    let b = eqb-true m n e in
+    after-alike 1 0 (lines step (line + 1) n 0 t r) (lines step (line + 1) n 0 t r′) _
+    (lines-alike step (line + 1) c 1 h n 0 t r r′ (less (n * c + 1) (n * c + 5 - (3 + 1)) r r′ (omega arith) (g 3 (omega arith) (omega arith))))
+    (λ u s s′ i. ended-alike (line + 1 + n) u s s′ i))
+  where
+    product : (n c : ℕ) → 1 ≤ n → 1 ≤ c → 1 ≤ n * c
+    product zero c p q = absurd (omega arith)
+    product (suc n) c p q = omega arith
+
 starts-front : (n line : ℕ) (labels starts l : List ℕ) (q : ℕ) → 1 ≤ n → n ≤ 128 → n * 15 + 12 ≤ q
     → AlikeSection 0 (startsPart n line labels starts l) (startsPart n line labels starts (take q l))
 unfolding startsPart
 starts-front n line labels starts l zero low high h = absurd (omega arith)
 starts-front n line labels starts [] (suc q) low high h = ends starts [] [] nothing
 starts-front n line labels starts (x ∷ l) (suc q) low high h =
-    counted-alike (Rest (n * 15 + 5)) 0 (countLine startsWord (x ∷ l)) (countLine startsWord (x ∷ take q l)) (λ m. eqb m n) line _
-    (count-alike startsWord (x ∷ l) (x ∷ take q l) (n * 15 + 5) (omega arith) (record { kept = suc q; enough = omega arith; same = refl }))
-    (λ m r r′ t f.
-    let b = eqb-true m n t in
-    after-alike 1 0 (lines (startStep labels) (line + 1) n 0 starts r) (lines (startStep labels) (line + 1) n 0 starts r′) _
-    (lines-alike (startStep labels) (line + 1) 15 1 (λ k u s s′ d _ g. start-step labels k u s s′ d g) n 0 starts r r′
-    (less (n * 15 + 1) (n * 15 + 5 - (3 + 1)) r r′ (omega arith) (f 3 (omega arith) (omega arith))))
-    (λ u s s′ g. ended-alike (line + 1 + n) u s s′ g))
+    last-alike-part startsWord (startStep labels) 15 (λ k u s s′ d _ g. start-step labels k u s s′ d g) n line starts (x ∷ l) (x ∷ take q l) low (omega arith) high
+    (record { kept = suc q; enough = omega arith; same = refl })
 
 starts-alike : (n line : ℕ) (labels starts l l′ : List ℕ) → 1 ≤ n → n ≤ 128 → Front (n * 15 + 12) l l′
     → AlikeSection 0 (startsPart n line labels starts l) (startsPart n line labels starts l′)

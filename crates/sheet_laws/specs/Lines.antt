@@ -10,7 +10,7 @@ use native.Mathlib.Omega.{arith}
 use borrow.Author.Tests.{eq-eqb, ne-eqb, lt-ltb, le-ltb, le-leb, lt-leb}
 use Rattle.rules.specs.Tables.{at, cell, Lent, lend}
 use Rattle.rules.specs.Text.{none, some, pathsWord, guardsWord, startsWord}
-use Rattle.rules.specs.Sheet.{isRow, find, putRow, Line, wrong, right, halt, done, follow, lines, countLine, pathLine, guardLine, pathMeans, pathStep, guardCell, guardMeans, guardStep, startMeans, startStep, counted, after, ended, startsPart, guardsPart, sheetFrom}
+use Rattle.rules.specs.Sheet.{isRow, find, putRow, Line, wrong, right, halt, done, follow, lines, countLine, pathLine, guardLine, pathMeans, pathStep, guardCell, guardMeans, guardStep, startMeans, startStep, counted, after, ended, lastPart, startsPart, guardsPart, sheetFrom}
 use Rattle.sheet_laws.specs.Texts.{here, past}
 
 module _ (k : ℕ) (labels widths l : List ℕ) where
@@ -107,33 +107,39 @@ pub guard-any : (n : ℕ) (labels : List ℕ) (k : ℕ) (guards l : List ℕ) �
 unfolding guardStep
 guard-any n labels k guards l = refl
 
+-- the last section of a text s, from place i on
+module _ {T : Type 0} (w : List ℕ) (step : ℕ → T → List ℕ → Line T) (n line : ℕ) (t : T) (s : List ℕ) (i : ℕ) where
+  pub part-ill : countLine w (drop i s) ≡ none → lastPart w step n line t (drop i s) ≡ halt 11 line
+  unfolding lastPart counted
+  part-ill e = rw e
+
+  module _ (m : ℕ) (l : List ℕ) (e : countLine w (drop i s) ≡ some m l) where
+    pub part-count : (m ≡ n → ⊥) → lastPart w step n line t (drop i s) ≡ halt 1 line
+    unfolding lastPart counted
+    part-count d = rw (e, ne-eqb m n d)
+
+    module _ (q : m ≡ n) where
+      pub part-halt : (x y : ℕ) → lines step (line + 1) n 0 t l ≡ halt x y → lastPart w step n line t (drop i s) ≡ halt x y
+      unfolding lastPart counted after
+      part-halt x y z = rw (e, eq-eqb m n q, z)
+
+      pub part-left : (t′ : T) (f : ℕ) → lines step (line + 1) n 0 t l ≡ done t′ (drop f s) → f < length s → lastPart w step n line t (drop i s) ≡ halt 11 (line + 1 + n)
+      unfolding lastPart counted after ended
+      part-left t′ f z k = let z′ = rw (here s f k) at z in rw (e, eq-eqb m n q, z′)
+
+      pub part-done : (t′ : T) (f : ℕ) → lines step (line + 1) n 0 t l ≡ done t′ (drop f s) → length s ≤ f → lastPart w step n line t (drop i s) ≡ done t′ (drop f s)
+      unfolding lastPart counted after ended
+      part-done t′ f z k = let z′ = rw (past s f k) at z in rw (past s f k, e, eq-eqb m n q, z′)
+
 module _ (n line : ℕ) (labels starts s : List ℕ) (i : ℕ) where
   pub starts-none : length s ≤ i → startsPart n line labels starts (drop i s) ≡ done starts (drop i s)
   unfolding startsPart
   starts-none h = rw (past s i h)
 
-  module _ (h : i < length s) where
-    pub starts-ill : countLine startsWord (drop i s) ≡ none → startsPart n line labels starts (drop i s) ≡ halt 11 line
-    unfolding startsPart counted
-    starts-ill e = let e′ = rw (here s i h) at e in rw (here s i h, e′)
-
-    module _ (m : ℕ) (l : List ℕ) (e : countLine startsWord (drop i s) ≡ some m l) where
-      pub starts-count : (m ≡ n → ⊥) → startsPart n line labels starts (drop i s) ≡ halt 1 line
-      unfolding startsPart counted
-      starts-count d = let e′ = rw (here s i h) at e in rw (here s i h, e′, ne-eqb m n d)
-
-      module _ (q : m ≡ n) where
-        pub starts-halt : (x y : ℕ) → lines (startStep labels) (line + 1) n 0 starts l ≡ halt x y → startsPart n line labels starts (drop i s) ≡ halt x y
-        unfolding startsPart counted after
-        starts-halt x y z = let e′ = rw (here s i h) at e in rw (here s i h, e′, eq-eqb m n q, z)
-
-        pub starts-left : (starts′ : List ℕ) (f : ℕ) → lines (startStep labels) (line + 1) n 0 starts l ≡ done starts′ (drop f s) → f < length s → startsPart n line labels starts (drop i s) ≡ halt 11 (line + 1 + n)
-        unfolding startsPart counted after ended
-        starts-left starts′ f z k = let e′ = rw (here s i h) at e in let z′ = rw (here s f k) at z in rw (here s i h, e′, eq-eqb m n q, z′)
-
-        pub starts-done : (starts′ : List ℕ) (f : ℕ) → lines (startStep labels) (line + 1) n 0 starts l ≡ done starts′ (drop f s) → length s ≤ f → startsPart n line labels starts (drop i s) ≡ done starts′ (drop f s)
-        unfolding startsPart counted after ended
-        starts-done starts′ f z k = let e′ = rw (here s i h) at e in let z′ = rw (past s f k) at z in rw (past s f k, here s i h, e′, eq-eqb m n q, z′)
+  -- where the text goes on, the starts are its last section
+  pub starts-some : i < length s → startsPart n line labels starts (drop i s) ≡ lastPart startsWord (startStep labels) n line starts (drop i s)
+  unfolding startsPart
+  starts-some h = rw (here s i h)
 
 module _ (n : ℕ) (labels guards starts l : List ℕ) where
   pub guards-ill : countLine guardsWord l ≡ none → guardsPart n labels guards starts l ≡ halt 11 (n + 2)

@@ -13,7 +13,7 @@ use borrow.Author.Tests.{eq-eqb, ne-eqb, leb-true}
 use Rattle.rules.specs.declared.SheetRead.{SheetRead}
 use Rattle.rules.specs.Tables.{at, cell, cleared, Lent, lend, clearedNetwork}
 use Rattle.rules.specs.Text.{Parsed, none, some, pathsWord, guardsWord, startsWord}
-use Rattle.rules.specs.Sheet.{isRow, find, putRow, Line, wrong, right, Section, halt, done, follow, lines, countLine, pathLine, guardLine, pathMeans, pathStep, guardCell, guardMeans, guardStep, startMeans, startStep, counted, after, ended, startsPart, guardsPart, sheetFrom}
+use Rattle.rules.specs.Sheet.{isRow, find, putRow, Line, wrong, right, Section, halt, done, follow, lines, countLine, pathLine, guardLine, pathMeans, pathStep, guardCell, guardMeans, guardStep, startMeans, startStep, counted, after, ended, lastPart, startsPart, guardsPart, sheetFrom}
 use Rattle.rules.specs.Numbers.{_orElse_, noFault, networkSizes, labelSizes, sheetSizes}
 use Rattle.rules.specs.Calls.{Left, left, unless, readOutcome, reading}
 use Rattle.rules.specs.Program.{onSheet}
@@ -114,14 +114,18 @@ unfolding ended
 ended-short line t [] b = tt
 ended-short line t (x ∷ l) b = (omega arith, b)
 
+last-short : {T : Type 0} (w : List ℕ) (step : ℕ → T → List ℕ → Line T) → ((k : ℕ) (t : T) (l : List ℕ) → ShortLine (step k t l)) → (n line : ℕ) (t : T) (l : List ℕ)
+    → n ≤ 128 → line ≤ 3000 → Short (lastPart w step n line t l)
+unfolding lastPart
+last-short w step h n line t l p q =
+    counted-short (countLine w l) (λ m. eqb m n) line (λ m l₁. after (lines step (line + 1) n 0 t l₁) (λ t′ l₂. ended (line + 1 + n) t′ l₂)) (omega arith)
+    (λ m l₁ e. after-short (lines step (line + 1) n 0 t l₁) (λ t′ l₂. ended (line + 1 + n) t′ l₂)
+    (lines-short step h (line + 1) n 0 t l₁ (omega arith)) (λ t′ l₂. ended-short (line + 1 + n) t′ l₂ (omega arith)))
+
 starts-short : (n line : ℕ) (labels starts l : List ℕ) → n ≤ 128 → line ≤ 3000 → Short (startsPart n line labels starts l)
 unfolding startsPart
 starts-short n line labels starts [] p q = tt
-starts-short n line labels starts (x ∷ l) p q =
-    counted-short (countLine startsWord (x ∷ l)) (λ m. eqb m n) line
-    (λ m l₁. after (lines (startStep labels) (line + 1) n 0 starts l₁) (λ t l₂. ended (line + 1 + n) t l₂)) (omega arith)
-    (λ m l₁ e. after-short (lines (startStep labels) (line + 1) n 0 starts l₁) (λ t l₂. ended (line + 1 + n) t l₂)
-    (lines-short (startStep labels) (start-short labels) (line + 1) n 0 starts l₁ (omega arith)) (λ t l₂. ended-short (line + 1 + n) t l₂ (omega arith)))
+starts-short n line labels starts (x ∷ l) p q = last-short startsWord (startStep labels) (start-short labels) n line starts (x ∷ l) p q
 
 guards-short : (n : ℕ) (labels guards starts l : List ℕ) → n ≤ 128 → Short (guardsPart n labels guards starts l)
 unfolding guardsPart

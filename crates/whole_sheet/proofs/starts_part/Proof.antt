@@ -1,3 +1,4 @@
+use mathlib.Core.Path.{_∙_}
 use Prim.Native.Nat.{_+_}
 use native.Mathlib.Omega.{arith}
 use borrow.Author.Needs.{needs}
@@ -10,7 +11,7 @@ use Rattle.text.specs.Says.{CountIs}
 use Rattle.text.specs.declared.Amount.the-variants.{Is, Unread}
 use Rattle.sections.specs.Says.{PartWithin, SectionIs}
 use Rattle.sections.specs.declared.Part.the-variants.{Over, Halt}
-use Rattle.sheet_laws.specs.Lines.{starts-none, starts-ill, starts-count, starts-halt, starts-left, starts-done}
+use Rattle.sheet_laws.specs.Lines.{starts-none, starts-some, part-ill, part-count, part-halt, part-left, part-done}
 use Rattle.whole_sheet.proofs.starts_part.Statement.{statement}
 use Rattle.whole_sheet.proofs.starts_part.Tie as tie
 
@@ -40,13 +41,13 @@ returns-2 c =
     let a = c .before .before .before .before .before .before .before .before .args in
     let s = now (a .text) in
     let z : CountIs s (a .place) startsWord Unread = rw (c .enum-told .given .1) at (c .before .before .count-line .ensures) in
-    (tt, λ labels keyed. starts-ill (a .n) (a .line) labels (now (a .table)) s (a .place) (c .before .before .before .before .if1 .left) z)
+    (tt, λ labels keyed. starts-some (a .n) (a .line) labels (now (a .table)) s (a .place) (c .before .before .before .before .if1 .left) ∙ part-ill startsWord (startStep labels) (a .n) (a .line) (now (a .table)) s (a .place) z)
 
 returns-3 : tie.Need-returns-3
 returns-3 c =
     let a = c .before .before .before .before .before .before .before .before .before .before .args in
     let s = now (a .text) in
-    (tt, λ labels keyed. starts-count (a .n) (a .line) labels (now (a .table)) s (a .place) (c .before .before .before .before .before .before .if1 .left) (c .before .before .m .given .0 .0) (drop (c .before .before .m .given .0 .1 .0) s) (at-m (c .before .before) .0) (c .if2 .taken))
+    (tt, λ labels keyed. starts-some (a .n) (a .line) labels (now (a .table)) s (a .place) (c .before .before .before .before .before .before .if1 .left) ∙ part-count startsWord (startStep labels) (a .n) (a .line) (now (a .table)) s (a .place) (c .before .before .m .given .0 .0) (drop (c .before .before .m .given .0 .1 .0) s) (at-m (c .before .before) .0) (c .if2 .taken))
 
 add-starts : tie.Need-add-starts
 add-starts c = search needs
@@ -76,7 +77,7 @@ returns-4 c =
       tt,
       λ labels keyed.
           let z : SectionIs s (c .before .before .before .before .before .before .starts .last .1 .1 .1 .1 .1 .0) (lines (startStep labels) (a .line + 1) (a .n) 0 (now (a .table)) (drop (c .before .before .before .before .before .before .before .before .before .before .m .given .0 .1 .0) s)) (Over (c .before .before .f .given .0 .0)) = (rw (c .before .before .f .given .1) at (c .before .before .before .before .before .before .starts .ensures)) .1 labels keyed in
-          starts-left (a .n) (a .line) labels (now (a .table)) s (a .place) (c .before .before .before .before .before .before .before .before .before .before .before .before .before .before .if1 .left) (c .before .before .before .before .before .before .before .before .before .before .m .given .0 .0) (drop (c .before .before .before .before .before .before .before .before .before .before .m .given .0 .1 .0) s) (at-m (c .before .before .before .before .before .before .before .before .before .before) .0) (c .before .before .before .before .before .before .before .before .if2 .left) (c .before .before .before .before .before .before .starts .last .1 .1 .1 .1 .1 .0) (c .before .before .f .given .0 .0) z (c .if3 .taken),
+          starts-some (a .n) (a .line) labels (now (a .table)) s (a .place) (c .before .before .before .before .before .before .before .before .before .before .before .before .before .before .if1 .left) ∙ part-left startsWord (startStep labels) (a .n) (a .line) (now (a .table)) s (a .place) (c .before .before .before .before .before .before .before .before .before .before .m .given .0 .0) (drop (c .before .before .before .before .before .before .before .before .before .before .m .given .0 .1 .0) s) (at-m (c .before .before .before .before .before .before .before .before .before .before) .0) (c .before .before .before .before .before .before .before .before .if2 .left) (c .before .before .before .before .before .before .starts .last .1 .1 .1 .1 .1 .0) (c .before .before .f .given .0 .0) z (c .if3 .taken),
     )
 
 same-length-2 : tie.Need-same-length-2
@@ -89,7 +90,7 @@ returns-5 c =
       tt,
       λ labels keyed.
           let z : SectionIs s (c .before .before .before .before .before .starts .last .1 .1 .1 .1 .1 .0) (lines (startStep labels) (a .line + 1) (a .n) 0 (now (a .table)) (drop (c .before .before .before .before .before .before .before .before .before .m .given .0 .1 .0) s)) (Halt (c .before .x .given .0 .0) (c .before .x .given .0 .1 .0)) = (rw (c .before .x .given .1) at (c .before .before .before .before .before .starts .ensures)) .1 labels keyed in
-          starts-halt (a .n) (a .line) labels (now (a .table)) s (a .place) (c .before .before .before .before .before .before .before .before .before .before .before .before .before .if1 .left) (c .before .before .before .before .before .before .before .before .before .m .given .0 .0) (drop (c .before .before .before .before .before .before .before .before .before .m .given .0 .1 .0) s) (at-m (c .before .before .before .before .before .before .before .before .before) .0) (c .before .before .before .before .before .before .before .if2 .left) (c .before .x .given .0 .0) (c .before .x .given .0 .1 .0) z,
+          starts-some (a .n) (a .line) labels (now (a .table)) s (a .place) (c .before .before .before .before .before .before .before .before .before .before .before .before .before .if1 .left) ∙ part-halt startsWord (startStep labels) (a .n) (a .line) (now (a .table)) s (a .place) (c .before .before .before .before .before .before .before .before .before .m .given .0 .0) (drop (c .before .before .before .before .before .before .before .before .before .m .given .0 .1 .0) s) (at-m (c .before .before .before .before .before .before .before .before .before) .0) (c .before .before .before .before .before .before .before .if2 .left) (c .before .x .given .0 .0) (c .before .x .given .0 .1 .0) z,
     )
 
 same-length-3 : tie.Need-same-length-3
@@ -103,7 +104,7 @@ returns-6 c =
       y,
       λ labels keyed.
           let z : SectionIs s (c .before .before .before .before .before .before .starts .last .1 .1 .1 .1 .1 .0) (lines (startStep labels) (a .line + 1) (a .n) 0 (now (a .table)) (drop (c .before .before .before .before .before .before .before .before .before .before .m .given .0 .1 .0) s)) (Over (c .before .before .f .given .0 .0)) = (rw (c .before .before .f .given .1) at (c .before .before .before .before .before .before .starts .ensures)) .1 labels keyed in
-          starts-done (a .n) (a .line) labels (now (a .table)) s (a .place) (c .before .before .before .before .before .before .before .before .before .before .before .before .before .before .if1 .left) (c .before .before .before .before .before .before .before .before .before .before .m .given .0 .0) (drop (c .before .before .before .before .before .before .before .before .before .before .m .given .0 .1 .0) s) (at-m (c .before .before .before .before .before .before .before .before .before .before) .0) (c .before .before .before .before .before .before .before .before .if2 .left) (c .before .before .before .before .before .before .starts .last .1 .1 .1 .1 .1 .0) (c .before .before .f .given .0 .0) z (c .if3 .left),
+          starts-some (a .n) (a .line) labels (now (a .table)) s (a .place) (c .before .before .before .before .before .before .before .before .before .before .before .before .before .before .if1 .left) ∙ part-done startsWord (startStep labels) (a .n) (a .line) (now (a .table)) s (a .place) (c .before .before .before .before .before .before .before .before .before .before .m .given .0 .0) (drop (c .before .before .before .before .before .before .before .before .before .before .m .given .0 .1 .0) s) (at-m (c .before .before .before .before .before .before .before .before .before .before) .0) (c .before .before .before .before .before .before .before .before .if2 .left) (c .before .before .before .before .before .before .starts .last .1 .1 .1 .1 .1 .0) (c .before .before .f .given .0 .0) z (c .if3 .left),
     )
 
 pub starts-part-spec : {M : Type 1} → statement M
