@@ -5,3 +5,4 @@ pub mod Writes
 pub mod FirstBytes
 pub mod Sizes
 pub mod Reads
+pub mod Grid

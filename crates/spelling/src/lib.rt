@@ -4,8 +4,9 @@ ghost use mathlib.Core.Path.{_≡_};
 ghost use mathlib.Core.List.{_++_};
 ghost use Prim.Native.Nat.{_+_, _*_, _≤_, _<_};
 ghost use lib.ListN.{length, set};
-ghost use Rattle.rules.specs.Text.{numeral, space, lineFeed};
+ghost use Rattle.rules.specs.Text.{numeral, signedNumeral, space, lineFeed};
 ghost use Rattle.rules.specs.Writing.{labelOf, countText, pathText, guardText};
+ghost use Rattle.sheet_laws.specs.Grid.{lowered};
 ghost use Rattle.spelling.specs.Says.{Wrote};
 
 // How many digits a number has.
@@ -28,8 +29,19 @@ fn number_length(v: usize) -> usize
     5
 }
 
+// How long a number is that may lie below 0 and is counted from -100,000. Then it has a hyphen.
+pub fn signed_length(u: usize) -> usize
+    requires { ⌜ (0 < u) × (u < 200000) ⌝ }
+    ensures { λ r. ⌜ (r ≡ length (signedNumeral (lowered u))) × (r ≤ 6) ⌝ }
+{
+    if u < text::ZERO {
+        return 1 + number_length(text::ZERO - u);
+    }
+    number_length(u - text::ZERO)
+}
+
 // The length of a line's last field: a space, a number and the line feed.
-fn last_length(v: usize) -> usize
+pub fn last_length(v: usize) -> usize
     requires { ⌜ v < 100000 ⌝ }
     ensures { λ r. ⌜ (r ≡ length (numeral v) + 2) × (r ≤ 7) ⌝ }
 {
@@ -84,6 +96,19 @@ pub fn put_number(text: &mut [u8], place: usize, v: usize) -> usize
     }
     let p = put_number(text, place, v / 10);
     put(text, p, 48 + (v % 10) as u8)
+}
+
+// Puts a number that may lie below 0 and is counted from -100,000.
+pub fn put_signed(text: &mut [u8], place: usize, u: usize) -> usize
+    requires { ⌜ (0 < u) × (u < 200000)
+        × (place + length (signedNumeral (lowered u)) ≤ length (now text)) ⌝ }
+    ensures { λ r. ⌜ Wrote (now (text .entry)) place (signedNumeral (lowered u)) r (now (text .exit)) ⌝ }
+{
+    if u < text::ZERO {
+        let p = put_word(text, place, b"-");
+        return put_number(text, p, text::ZERO - u);
+    }
+    put_number(text, place, u - text::ZERO)
 }
 
 // Puts path k's label.

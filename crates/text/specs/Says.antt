@@ -5,8 +5,9 @@ use mathlib.Core.Path.{_≡_}
 use mathlib.Core.Bool.{Bool, true, false}
 use mathlib.Core.List.{List}
 use lib.ListN.{length, take, drop}
-use Rattle.rules.specs.Text.{none, some, isDigit, isLabelByte, label, number, word}
+use Rattle.rules.specs.Text.{none, some, isDigit, isLabelByte, label, number, signed, word}
 use Rattle.rules.specs.Sheet.{lastField, countLine, pathLine}
+use Rattle.sheet_laws.specs.Grid.{lowered}
 use Rattle.text.specs.declared.Next.{Next}
 use Rattle.text.specs.declared.Next.the-variants.{At, Missing}
 use Rattle.text.specs.declared.Amount.{Amount}
@@ -34,6 +35,11 @@ LabelIs s a (At e) = (label (drop a s) ≡ some (part s a e) (drop e s)) × (a <
 abbrev pub NumberIs : List ℕ → ℕ → Amount → Type 0
 NumberIs s a Unread = number (drop a s) ≡ none
 NumberIs s a (Is v e) = (number (drop a s) ≡ some v (drop e s)) × (v < 100000) × (e ≤ length s)
+
+-- a number that may lie below 0, as it is counted
+abbrev pub SignedIs : List ℕ → ℕ → Amount → Type 0
+SignedIs s a Unread = signed (drop a s) ≡ none
+SignedIs s a (Is u e) = (signed (drop a s) ≡ some (lowered u) (drop e s)) × (u < 200000) × (e ≤ length s)
 
 abbrev pub LastIs : List ℕ → ℕ → Amount → Type 0
 LastIs s a Unread = lastField (drop a s) ≡ none

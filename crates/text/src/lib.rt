@@ -3,8 +3,8 @@
 ghost use mathlib.Core.Path.{_≡_};
 ghost use Prim.Native.Nat.{_+_, _-_, _≤_, _<_};
 ghost use lib.ListN.{length, drop};
-ghost use Rattle.rules.specs.Text.{run, isDigit, valueFrom};
-ghost use Rattle.text.specs.Says.{classOf, WordIs, LabelIs, NumberIs, LastIs, CountIs, PathLineIs};
+ghost use Rattle.rules.specs.Text.{none, word, hyphen, run, isDigit, valueFrom};
+ghost use Rattle.text.specs.Says.{classOf, WordIs, LabelIs, NumberIs, SignedIs, LastIs, CountIs, PathLineIs};
 
 // The section words: the reader compares these byte by byte, and the writer writes them.
 pub const PATHS_WORD: [u8; 5] = *b"paths";
@@ -12,6 +12,11 @@ pub const PATHS_WORD: [u8; 5] = *b"paths";
 pub const GUARDS_WORD: [u8; 6] = *b"guards";
 
 pub const STARTS_WORD: [u8; 6] = *b"starts";
+
+pub const ORDER_WORD: [u8; 5] = *b"order";
+
+// A number that may lie below 0 is counted from -100,000, below which no line can spell one. 0 is counted as this.
+pub const ZERO: usize = 100000;
 
 // The place after what was read, or nothing of the kind stands there.
 pub enum Next {
@@ -149,6 +154,34 @@ pub fn word(text: &[u8], place: usize, w: &[u8]) -> Next
         j += 1;
     }
     Next::At(i)
+}
+
+// A number without a hyphen, counted from -100,000.
+fn unsigned(text: &[u8], place: usize) -> Amount
+    requires { ⌜ (place ≤ length (now text)) × (word hyphen (drop place (now text)) ≡ none) ⌝ }
+    ensures { λ r. ⌜ SignedIs (now (text .entry)) place r ⌝ }
+{
+    let Amount::Is(v, next) = number(text, place) else {
+        return Amount::Unread;
+    };
+    Amount::Is(v + ZERO, next)
+}
+
+// A number that may lie below 0, counted from -100,000. What stands after a hyphen is not 0.
+pub fn signed(text: &[u8], place: usize) -> Amount
+    requires { ⌜ place ≤ length (now text) ⌝ }
+    ensures { λ r. ⌜ SignedIs (now (text .entry)) place r ⌝ }
+{
+    let Next::At(e) = word(text, place, b"-") else {
+        return unsigned(text, place);
+    };
+    let Amount::Is(v, next) = number(text, e) else {
+        return Amount::Unread;
+    };
+    if v == 0 {
+        return Amount::Unread;
+    }
+    Amount::Is(ZERO - v, next)
 }
 
 // A line's last field: a space, a number and the line feed.

@@ -1,0 +1,4 @@
+pub mod Tests
+pub mod Anchors
+pub mod Starts
+pub mod Centres
