@@ -5,12 +5,14 @@ use mathlib.Core.Path.{_≡_, refl}
 use mathlib.Core.Bool.{true, false}
 use mathlib.Core.List.{List, []}
 use lib.ListN.{length, set, drop}
+use lib.IntN.{ℤ}
 use native.Mathlib.Numerals.{add-one}
 use native.Mathlib.Omega.{arith}
 use borrow.Author.Tests.{eq-eqb, ne-eqb, lt-ltb, le-ltb, le-leb, lt-leb}
 use Rattle.rules.specs.Tables.{at, cell, Lent, lend}
 use Rattle.rules.specs.Text.{none, some, pathsWord, guardsWord, startsWord}
 use Rattle.rules.specs.Sheet.{isRow, find, putRow, Line, wrong, right, halt, done, follow, lines, countLine, pathLine, guardLine, pathMeans, pathStep, guardCell, guardMeans, guardStep, startMeans, startStep, counted, after, ended, lastPart, startsPart, guardsPart, sheetFrom}
+use Rattle.rules.specs.Grid.{gridStart, orderLine, orderMeans, orderStep}
 use Rattle.sheet_laws.specs.Texts.{here, past}
 
 module _ (k : ℕ) (labels widths l : List ℕ) where
@@ -101,6 +103,31 @@ module _ (labels : List ℕ) (k : ℕ) (starts l : List ℕ) where
     pub start-fine : isRow labels w k ≡ true → 1 ≤ v → v ≤ 16384 → startStep labels k starts l ≡ right (set starts k v) l′
     unfolding startStep startMeans
     start-fine h g g′ = rw (e, h, le-leb 1 v g, le-leb v 16384 g′)
+
+-- path k's line of an order sheet
+module _ (anchor : ℤ) (labels widths : List ℕ) (k : ℕ) (starts l : List ℕ) where
+  pub order-ill : orderLine l ≡ none → orderStep anchor labels widths k starts l ≡ wrong 11
+  unfolding orderStep orderMeans
+  order-ill e = rw e
+
+  module _ (w : List ℕ) (n : ℤ) (m : ℕ) (l′ : List ℕ) (e : orderLine l ≡ some (w, (n, m)) l′) where
+    pub order-other : isRow labels w k ≡ false → orderStep anchor labels widths k starts l ≡ wrong 13
+    unfolding orderStep orderMeans
+    order-other h = rw (e, h)
+
+    module _ (h : isRow labels w k ≡ true) where
+      pub order-width : (m ≡ at widths k → ⊥) → orderStep anchor labels widths k starts l ≡ wrong 3
+      unfolding orderStep orderMeans
+      order-width d = rw (e, h, ne-eqb m (at widths k) d)
+
+      module _ (q : m ≡ at widths k) (b : ℕ) (g : b ≡ gridStart anchor (at widths k) n) where
+        pub order-none : b ≡ 0 → orderStep anchor labels widths k starts l ≡ wrong 7
+        unfolding orderStep orderMeans
+        order-none z = rw (e, h, eq-eqb m (at widths k) q, ← g, z)
+
+        pub order-fine : 0 < b → orderStep anchor labels widths k starts l ≡ right (set starts k b) l′
+        unfolding orderStep orderMeans
+        order-fine p = rw (e, h, eq-eqb m (at widths k) q, ← g, lt-ltb 0 b p)
 
 -- a guard's line does not go by its index
 pub guard-any : (n : ℕ) (labels : List ℕ) (k : ℕ) (guards l : List ℕ) → guardStep n labels k guards l ≡ guardStep n labels 0 guards l
