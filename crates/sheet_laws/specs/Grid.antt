@@ -9,8 +9,11 @@ use native.Mathlib.Decide.{decLt}
 use lib.IntN.{ℤ, pos, negsuc, negℤ, _+ℤ_, _*ℤ_, +ℤ-assoc, +ℤ-comm, +ℤ-invr, +ℤ-idl, +ℤ-idr, negℤ-+ℤ}
 use lib.Dec.{eqb}
 use borrow.Author.Tests.{lt-ltb, le-ltb, eq-eqb, ne-eqb, eqb-true, eqb-false}
-use Rattle.rules.specs.Text.{Parsed, none, some, then, word, hyphen, run, isPlain, number, numeral, belowZero, signed, signedNumeral}
-use Rattle.rules.specs.Grid.{gridNumber, startAbove, gridStart, quarters}
+use lib.ListN.{length, length-append}
+use Rattle.rules.specs.Tables.{at}
+use Rattle.rules.specs.Text.{Parsed, none, some, then, word, space, lineFeed, orderWord, hyphen, run, isPlain, number, numeral, belowZero, signed, signedNumeral}
+use Rattle.rules.specs.Writing.{labelOf, joinFrom, countText}
+use Rattle.rules.specs.Grid.{gridNumber, startAbove, gridStart, quarters, orderLineText, orderText}
 
 -- the number that is counted as u
 abbrev pub lowered : ℕ → ℤ
@@ -124,3 +127,22 @@ quarters-low u h = go (decLt u 100000)
     go (no l) =
         let e : 772400 + 25 * (u - 100000) ≡ 25 * u - 1727600 = omega arith in
         ap (λ (z : ℤ). pos 772400 +ℤ pos 25 *ℤ z) (above u 100000 (omega arith)) ∙ ap pos e
+
+-- the lengths of a line of the order sheet, and of the whole
+pub order-line-length : (anchor : ℤ) (labels widths starts : List ℕ) (k : ℕ) → length (orderLineText anchor labels widths starts k)
+    ≡ length (labelOf labels k) + length (signedNumeral (gridNumber anchor (at starts k) (at widths k))) + length (numeral (at widths k)) + 3
+unfolding orderLineText
+order-line-length anchor labels widths starts k =
+    let n = signedNumeral (gridNumber anchor (at starts k) (at widths k)) in
+    let m = numeral (at widths k) in
+    omega (
+      arith,
+      length-append (labelOf labels k) (space ++ (n ++ (space ++ (m ++ lineFeed)))),
+      length-append n (space ++ (m ++ lineFeed)),
+      length-append m lineFeed,
+    )
+
+pub order-length : (anchor : ℤ) (n : ℕ) (labels widths starts : List ℕ) → length (orderText anchor n labels widths starts)
+    ≡ length (countText orderWord n) + length (joinFrom n 0 (orderLineText anchor labels widths starts))
+unfolding orderText
+order-length anchor n labels widths starts = length-append (countText orderWord n) (joinFrom n 0 (orderLineText anchor labels widths starts))
