@@ -6,3 +6,4 @@ pub mod FirstBytes
 pub mod Sizes
 pub mod Reads
 pub mod Grid
+pub mod Outcomes

@@ -1,4 +1,4 @@
-// An inner crate, for `sheet`: the tables of a sheet, tested and counted. Each scan goes from the lowest index.
+// An inner crate, for `sheet` and `order`: the tables of a sheet, tested and counted. Each scan goes from the lowest index.
 ghost use mathlib.Core.Path.{_≡_};
 ghost use mathlib.Core.Bool.{false, cond};
 ghost use Prim.Native.Nat.{ℕ, _≤_, _<_};
@@ -12,7 +12,7 @@ ghost use Rattle.sheet_tables.specs.Tests.{planFault, tableFault};
 use rules::Fault;
 
 // 2, of the labels and the starts.
-fn label_sizes(labels: &[u8], starts: &[u16]) -> Fault
+pub fn label_sizes(labels: &[u8], starts: &[u16]) -> Fault
     ensures { λ r. ⌜ r ≡ labelSizes (now (labels .entry)) (now (starts .entry)) ⌝ }
 {
     let f = tables::size_fault(labels.len(), rules::LABELS);
@@ -35,7 +35,7 @@ pub fn sheet_sizes(labels: &[u8], widths: &[u16], guards: &[u8], starts: &[u16])
 }
 
 // 11, over all paths.
-fn label_fault(n: usize, labels: &[u8]) -> Fault
+pub fn label_fault(n: usize, labels: &[u8]) -> Fault
     requires { ⌜ (n ≤ 128) × (length (now labels) ≡ 1024) ⌝ }
     ensures { λ r. ⌜ r ≡ scan 11 (badLabel (now (labels .entry))) n ⌝ }
 {
@@ -50,7 +50,7 @@ fn label_fault(n: usize, labels: &[u8]) -> Fault
 }
 
 // 12, over all paths, once none is refused 11.
-fn twice_fault(n: usize, labels: &[u8]) -> Fault
+pub fn twice_fault(n: usize, labels: &[u8]) -> Fault
     requires { ⌜ (n ≤ 128) × (length (now labels) ≡ 1024)
         × ((k : ℕ) → k < n → badLabel (now labels) k ≡ false) ⌝ }
     ensures { λ r. ⌜ r ≡ scan 12 (labelTwice (now (labels .entry))) n ⌝ }

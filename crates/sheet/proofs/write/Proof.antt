@@ -1,10 +1,14 @@
 use Prim.Native.Nat.{_≤_}
+use mathlib.Core.Path.{_∙_}
 use native.Mathlib.Omega.{arith}
 use borrow.Author.Needs.{needs}
 use denote.Ref.{now}
 use Rattle.rules.specs.Tables.{lend}
+use Rattle.rules.specs.Writing.{sheetText}
 use Rattle.sheet_laws.specs.Sizes.{Sized}
-use Rattle.sheet.proofs.Written.{write-refused, write-short, write-done, table-clear}
+use Rattle.sheet_laws.specs.Outcomes.{written-refused, written-short, written-done}
+use Rattle.sheet_tables.specs.Tests.{tableFault}
+use Rattle.sheet.proofs.Written.{writing-is, table-clear}
 use Rattle.sheet.proofs.write.Statement.{statement}
 use Rattle.sheet.proofs.write.Tie as tie
 
@@ -19,7 +23,8 @@ table-fault-requires c κs = search needs
 returns : tie.Need-returns
 returns c =
     let a = c .before .before .before .before .before .before .before .before .args in
-    write-refused (a .n) (now (a .labels)) (lend (now (a .widths)) (now (a .guards))) (now (a .starts)) (now (a .text)) (c .before .before .table-fault .result) (c .before .before .table-fault .ensures) (c .if1 .taken)
+    written-refused (sheetText (a .n) (now (a .labels)) (lend (now (a .widths)) (now (a .guards))) (now (a .starts))) (now (a .text)) (tableFault (a .n) (now (a .labels)) (lend (now (a .widths)) (now (a .guards))) (now (a .starts))) (c .before .before .table-fault .result) (c .before .before .table-fault .ensures) (c .if1 .taken)
+    ∙ writing-is (a .n) (now (a .labels)) (lend (now (a .widths)) (now (a .guards))) (now (a .starts)) (now (a .text))
 
 sheet-length-requires : tie.Need-sheet-length-requires
 sheet-length-requires c κs = fit c
@@ -27,7 +32,8 @@ sheet-length-requires c κs = fit c
 returns-2 : tie.Need-returns-2
 returns-2 c =
     let a = c .before .before .before .before .before .before .before .before .before .before .args in
-    write-short (a .n) (now (a .labels)) (lend (now (a .widths)) (now (a .guards))) (now (a .starts)) (now (a .text)) (c .before .before .before .before .table-fault .result) (c .before .before .before .before .table-fault .ensures) (c .before .before .if1 .left) (omega (arith, c .before .sheet-length .ensures))
+    written-short (sheetText (a .n) (now (a .labels)) (lend (now (a .widths)) (now (a .guards))) (now (a .starts))) (now (a .text)) (tableFault (a .n) (now (a .labels)) (lend (now (a .widths)) (now (a .guards))) (now (a .starts))) (c .before .before .before .before .table-fault .result) (c .before .before .before .before .table-fault .ensures) (c .before .before .if1 .left) (omega (arith, c .before .sheet-length .ensures))
+    ∙ writing-is (a .n) (now (a .labels)) (lend (now (a .widths)) (now (a .guards))) (now (a .starts)) (now (a .text))
 
 put-sheet-requires : tie.Need-put-sheet-requires
 put-sheet-requires c κs = let h = fit (c .before .before .before) in (h .0, h .1, omega (arith, c .before .before .sheet-length .ensures, c .before .if2 .left))
@@ -38,7 +44,8 @@ same-length c = search needs
 returns-3 : tie.Need-returns-3
 returns-3 c =
     let a = c .before .before .before .before .before .before .before .before .before .before .before .before .before .before .args in
-    write-done (a .n) (now (a .labels)) (lend (now (a .widths)) (now (a .guards))) (now (a .starts)) (now (a .text)) (c .before .before .before .before .before .before .before .before .table-fault .result) (c .before .before .before .before .before .before .before .before .table-fault .ensures) (c .before .before .before .before .before .before .if1 .left) (c .before .before .before .before .before .sheet-length .result) (c .before .before .put-sheet .last .0) (c .before .before .before .before .before .sheet-length .ensures) (c .before .before .before .before .if2 .left) (c .before .before .put-sheet .ensures .1)
+    written-done (sheetText (a .n) (now (a .labels)) (lend (now (a .widths)) (now (a .guards))) (now (a .starts))) (now (a .text)) (tableFault (a .n) (now (a .labels)) (lend (now (a .widths)) (now (a .guards))) (now (a .starts))) (c .before .before .before .before .before .before .before .before .table-fault .result) (c .before .before .before .before .before .before .before .before .table-fault .ensures) (c .before .before .before .before .before .before .if1 .left) (c .before .before .before .before .before .sheet-length .result) (c .before .before .put-sheet .last .0) (c .before .before .before .before .before .sheet-length .ensures) (c .before .before .before .before .if2 .left) (c .before .before .put-sheet .ensures .1)
+    ∙ writing-is (a .n) (now (a .labels)) (lend (now (a .widths)) (now (a .guards))) (now (a .starts)) (now (a .text))
 
 pub write-spec : {M : Type 1} → statement M
 write-spec =
