@@ -123,6 +123,16 @@ pub struct SheetWritten {
     pub length: usize,
 }
 
+/// What the order sheet's reader answers, beside the starts in their table.
+#[repr(C)]
+#[derive(Clone, Copy, Debug, PartialEq, Eq)]
+pub struct Ordered {
+    /// 0, or the number of the refusal.
+    pub number: usize,
+    /// Where; in the sheet the line, from 1.
+    pub place: usize,
+}
+
 extern "C" {
     /// See [`crate::judge`].
     pub fn nesbrunka_judge(
@@ -224,4 +234,32 @@ extern "C" {
         starts: *const u16, starts_length: usize,
         text: *mut u8, text_length: usize,
     ) -> SheetWritten;
+
+    /// The centre of a block in GHz; 0.0 when refused.
+    pub fn nesbrunka_centre(anchor: i32, start: usize, width: usize) -> f64;
+
+    /// The number of the call for the centre: 17, 3, 7 or 0.
+    pub fn nesbrunka_centre_number(anchor: i32, start: usize, width: usize) -> usize;
+
+    /// Writes an order sheet.
+    pub fn nesbrunka_order_write(
+        anchor: i32,
+        n: usize,
+        labels: *const u8, labels_length: usize,
+        widths: *const u16, widths_length: usize,
+        guards: *const u8, guards_length: usize,
+        starts: *const u16, starts_length: usize,
+        text: *mut u8, text_length: usize,
+    ) -> SheetWritten;
+
+    /// Reads an order sheet beside its network.
+    pub fn nesbrunka_order_read(
+        anchor: i32,
+        text: *const u8, text_length: usize,
+        n: usize,
+        labels: *const u8, labels_length: usize,
+        widths: *const u16, widths_length: usize,
+        guards: *const u8, guards_length: usize,
+        starts: *mut u16, starts_length: usize,
+    ) -> Ordered;
 }
