@@ -12,15 +12,19 @@ struct Sheet {
 }
 
 /// The lines still to come, counted from 1.
-struct Lines<'a> {
+pub struct Lines<'a> {
     rest: &'a [u8],
     number: usize,
 }
 
 impl<'a> Lines<'a> {
+    pub fn new(text: &'a [u8]) -> Lines<'a> {
+        Lines { rest: text, number: 0 }
+    }
+
     /// The fields of the next line, which must be there, with its line feed, and have so many.
     /// If it is missing, it is refused at the number that it should have.
-    fn fields(&mut self, count: usize) -> Result<Vec<&'a [u8]>, Refusal> {
+    pub fn fields(&mut self, count: usize) -> Result<Vec<&'a [u8]>, Refusal> {
         self.number += 1;
         let Some(length) = self.rest.iter().position(|&b| b == b'\n') else {
             return self.wrong(11);
@@ -35,7 +39,7 @@ impl<'a> Lines<'a> {
     }
 
     /// A count line: the section's word and a number.
-    fn count(&mut self, word: &[u8]) -> Result<usize, Refusal> {
+    pub fn count(&mut self, word: &[u8]) -> Result<usize, Refusal> {
         let fields = self.fields(2)?;
         if fields[0] != word {
             return self.wrong(11);
@@ -43,16 +47,11 @@ impl<'a> Lines<'a> {
         self.number_in(fields[1])
     }
 
-    /// 1 to 5 digits, and no zero in front of others.
-    fn number_in(&self, field: &[u8]) -> Result<usize, Refusal> {
-        let digits = (1..=5).contains(&field.len()) && field.iter().all(u8::is_ascii_digit);
-        if !digits || (field[0] == b'0' && field.len() > 1) {
-            return self.wrong(11);
-        }
-        Ok(field.iter().fold(0, |value, digit| 10 * value + usize::from(digit - b'0')))
+    pub fn number_in(&self, field: &[u8]) -> Result<usize, Refusal> {
+        number(field).map_or_else(|| self.wrong(11), Ok)
     }
 
-    fn label_in(&self, field: &[u8]) -> Result<Vec<u8>, Refusal> {
+    pub fn label_in(&self, field: &[u8]) -> Result<Vec<u8>, Refusal> {
         if is_label(field) {
             Ok(field.to_vec())
         } else {
@@ -60,10 +59,27 @@ impl<'a> Lines<'a> {
         }
     }
 
+    /// No line too many.
+    pub fn end(&self) -> Result<(), Refusal> {
+        match self.rest {
+            [] => Ok(()),
+            _ => refuse(11, self.number + 1),
+        }
+    }
+
     /// A refusal at the line read last.
-    fn wrong<T>(&self, number: usize) -> Result<T, Refusal> {
+    pub fn wrong<T>(&self, number: usize) -> Result<T, Refusal> {
         refuse(number, self.number)
     }
+}
+
+/// 1 to 5 digits, and no zero in front of others.
+pub fn number(field: &[u8]) -> Option<usize> {
+    let digits = (1..=5).contains(&field.len()) && field.iter().all(u8::is_ascii_digit);
+    if !digits || (field[0] == b'0' && field.len() > 1) {
+        return None;
+    }
+    Some(field.iter().fold(0, |value, digit| 10 * value + usize::from(digit - b'0')))
 }
 
 /// 1 to 8 digits, capitals or hyphens.
@@ -74,18 +90,15 @@ pub fn is_label(bytes: &[u8]) -> bool {
 
 /// The sections, one after the other, each headed by its count.
 fn parse(text: &[u8]) -> Result<Sheet, Refusal> {
-    let mut lines = Lines { rest: text, number: 0 };
+    let mut lines = Lines::new(text);
     let (labels, widths) = parse_paths(&mut lines)?;
     let guards = parse_guards(&mut lines, &labels)?;
     let starts = match lines.rest {
         [] => None,
         _ => Some(parse_starts(&mut lines, &labels)?),
     };
-    match lines.rest {
-        [] => Ok(Sheet { labels, widths, guards, starts }),
-        // a line too many
-        _ => refuse(11, lines.number + 1),
-    }
+    lines.end()?;
+    Ok(Sheet { labels, widths, guards, starts })
 }
 
 /// The paths: 11, 1 in their count line; then 11, 12, 3.
@@ -200,7 +213,7 @@ pub fn read(
 }
 
 /// The label in a path's eight bytes, with zeros after it, if it has the form.
-fn label_in_table(labels: &[u8], path: usize) -> Option<Vec<u8>> {
+pub fn label_in_table(labels: &[u8], path: usize) -> Option<Vec<u8>> {
     let bytes = &labels[LABEL * path..LABEL * (path + 1)];
     let length = bytes.iter().position(|&b| b == 0).unwrap_or(LABEL);
     let filled = bytes[length..].iter().all(|&b| b == 0);
@@ -208,7 +221,7 @@ fn label_in_table(labels: &[u8], path: usize) -> Option<Vec<u8>> {
 }
 
 /// 11 for the form of a label, over all paths; then 12 for one that an earlier path has.
-fn labels_of(n: usize, labels: &[u8]) -> Result<Vec<Vec<u8>>, Refusal> {
+pub fn labels_of(n: usize, labels: &[u8]) -> Result<Vec<Vec<u8>>, Refusal> {
     let found: Vec<Option<Vec<u8>>> = (0..n).map(|i| label_in_table(labels, i)).collect();
     refuse_at(11, found.iter().position(Option::is_none))?;
     refuse_at(12, (0..n).find(|&i| found[..i].contains(&found[i])))?;
