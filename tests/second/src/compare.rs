@@ -4,6 +4,7 @@
 use crate::calls::{self, Answer};
 use crate::ffi::{self, Cell, Lent};
 use crate::net::Network;
+use crate::order;
 use crate::sheet;
 use std::fmt::Write as _;
 
@@ -23,9 +24,12 @@ pub enum Call {
     Write,
     Program,
     Ask,
+    Centre,
+    OrderWrite,
+    OrderRead,
 }
 
-pub const CALLS: [(Call, &str); 13] = [
+pub const CALLS: [(Call, &str); 16] = [
     (Call::Judge, "judge"),
     (Call::Pack, "pack"),
     (Call::Press, "press"),
@@ -39,6 +43,9 @@ pub const CALLS: [(Call, &str); 13] = [
     (Call::Write, "write"),
     (Call::Program, "program"),
     (Call::Ask, "ask"),
+    (Call::Centre, "centre"),
+    (Call::OrderWrite, "order_write"),
+    (Call::OrderRead, "order_read"),
 ];
 
 impl Call {
@@ -67,6 +74,10 @@ pub struct Case {
     pub labels: Vec<u8>,
     /// The sheet to read, or the room to write it in.
     pub text: Vec<u8>,
+    /// The anchor of an order sheet, and of the block whose centre is asked for.
+    pub anchor: i32,
+    /// That block's start and width.
+    pub block: [usize; 2],
 }
 
 impl Case {
@@ -92,6 +103,10 @@ impl Case {
             Call::Why => &["path", "widths", "guards", "starts", "chain"],
             Call::Read | Call::Write => &["text", "labels", "widths", "guards", "starts"],
             Call::Program | Call::Ask => &["text"],
+            Call::Centre => &["anchor", "block"],
+            Call::OrderWrite | Call::OrderRead => {
+                &["anchor", "text", "labels", "widths", "guards", "starts"]
+            }
         };
         for name in tables {
             let _ = match *name {
@@ -104,6 +119,8 @@ impl Case {
                 "path" => writeln!(out, "  path {}", self.path),
                 "chain" => writeln!(out, "  chain {}", runs(&self.chain)),
                 "labels" => writeln!(out, "  labels {}", bytes(&self.labels)),
+                "anchor" => writeln!(out, "  anchor {}", self.anchor),
+                "block" => writeln!(out, "  start {}, width {}", self.block[0], self.block[1]),
                 _ => writeln!(out, "  text {}", bytes(&self.text)),
             };
         }
@@ -154,8 +171,8 @@ pub struct Tally<'a> {
     pub shown: Vec<String>,
 }
 
-/// Numbers 0 to 16.
-pub const NUMBERS: usize = 17;
+/// Numbers 0 to 17.
+pub const NUMBERS: usize = 18;
 
 /// Differences printed in full.
 const SHOWN: usize = 5;
@@ -254,6 +271,7 @@ fn number_in(output: &[u8]) -> usize {
         Some(number) => number,
         None if text.contains(" clash: ") => 8,
         None if text.starts_with("No path ") => 6,
+        None if text.starts_with("An anchor ") => 17,
         None => 0,
     }
 }
@@ -484,6 +502,83 @@ pub fn write(t: &mut Tally, c: &Case) -> Option<(Answer, Vec<u8>)> {
     Some((got, text.contents().to_vec()))
 }
 
+/// Both calls for the centre of the case's block; its number and the bits of the double are
+/// compared. The library's double comes back.
+pub fn centre(t: &mut Tally, c: &Case) -> Option<(usize, f64)> {
+    if !t.begin(Call::Centre, c) {
+        return None;
+    }
+    let [start, width] = c.block;
+    let (number, double) = ffi::centre(c.anchor, start, width);
+    let got = Answer::new(number, 0, [double.to_bits() as usize, 0]);
+    t.end(Call::Centre, c, got, order::centre(c.anchor, start, width), &[]);
+    Some((number, double))
+}
+
+/// Writes the case's order sheet into its text. The library's text comes back.
+pub fn order_write(t: &mut Tally, c: &Case) -> Option<(Answer, Vec<u8>)> {
+    if !t.begin(Call::OrderWrite, c) {
+        return None;
+    }
+    let mut l = OrderLending::new(c);
+    let mut own = c.text.clone();
+    let want = order::write(c.anchor, c.n, &c.labels, &c.widths, &c.guards, &c.starts, &mut own);
+    let (labels, widths, guards) = (&mut l.labels, &mut l.widths, &mut l.guards);
+    let got = ffi::order_write(c.anchor, c.n, labels, widths, guards, &mut l.starts, &mut l.text);
+    l.settle(t, Call::OrderWrite, c, (got, want), &c.starts, &own);
+    Some((got, l.text.contents().to_vec()))
+}
+
+/// Reads the case's text as an order sheet beside its network. The library's starts come back.
+pub fn order_read(t: &mut Tally, c: &Case) -> Option<(Answer, Vec<u16>)> {
+    if !t.begin(Call::OrderRead, c) {
+        return None;
+    }
+    let mut l = OrderLending::new(c);
+    let mut own = c.starts.clone();
+    let want = order::read(c.anchor, &c.text, c.n, &c.labels, &c.widths, &c.guards, &mut own);
+    let (labels, widths, guards) = (&mut l.labels, &mut l.widths, &mut l.guards);
+    let got = ffi::order_read(c.anchor, &mut l.text, c.n, labels, widths, guards, &mut l.starts);
+    l.settle(t, Call::OrderRead, c, (got, want), &own, &c.text);
+    Some((got, l.starts.contents().to_vec()))
+}
+
+/// The tables of an order sheet, lent.
+struct OrderLending {
+    labels: Lent<u8>,
+    widths: Lent<u16>,
+    guards: Lent<u8>,
+    starts: Lent<u16>,
+    text: Lent<u8>,
+}
+
+impl OrderLending {
+    fn new(c: &Case) -> OrderLending {
+        OrderLending {
+            labels: Lent::new(&c.labels),
+            widths: Lent::new(&c.widths),
+            guards: Lent::new(&c.guards),
+            starts: Lent::new(&c.starts),
+            text: Lent::new(&c.text),
+        }
+    }
+
+    /// Compares the tables: starts and text with what they should hold, the others with what was
+    /// lent.
+    fn settle(
+        &self, t: &mut Tally, call: Call, c: &Case, (got, want): (Answer, Answer), starts: &[u16],
+        text: &[u8],
+    ) {
+        let mut faults = Vec::new();
+        table("labels", &self.labels, &c.labels, &mut faults);
+        table("widths", &self.widths, &c.widths, &mut faults);
+        table("guards", &self.guards, &c.guards, &mut faults);
+        table("starts", &self.starts, starts, &mut faults);
+        table("text", &self.text, text, &mut faults);
+        t.end(call, c, got, want, &faults);
+    }
+}
+
 /// Every call on one case, whatever is right or wrong in it.
 pub fn all_calls(t: &mut Tally, c: &Case) {
     judge(t, c);
@@ -497,4 +592,6 @@ pub fn all_calls(t: &mut Tally, c: &Case) {
     floor(t, c);
     read(t, c);
     write(t, c);
+    order_write(t, c);
+    order_read(t, c);
 }

@@ -13,8 +13,12 @@ pub enum Kind {
     Guard,
     Starts,
     Start,
+    /// In an order sheet: the count line, and a path's line.
+    Order,
+    Ordered,
 }
 
+/// The kinds of a sheet; an order sheet has the other two.
 pub const LINE_KINDS: [Kind; 6] =
     [Kind::Paths, Kind::Path, Kind::Guards, Kind::Guard, Kind::Starts, Kind::Start];
 
@@ -40,6 +44,20 @@ impl Draft {
             lines.push((Kind::Starts, format!("starts {}", c.n)));
             lines.extend((0..c.n).map(|i| (Kind::Start, format!("{} {}", labels[i], c.starts[i]))));
         }
+        Draft::of(lines)
+    }
+
+    /// The order sheet of a case, whose anchor and starts may be out of range.
+    pub fn order(c: &Case) -> Draft {
+        let mut lines = vec![(Kind::Order, format!("order {}", c.n))];
+        for i in 0..c.n {
+            let steps = steps(c, i, i64::from(c.starts[i]));
+            lines.push((Kind::Ordered, format!("{} {steps} {}", label_text(c, i), c.widths[i])));
+        }
+        Draft::of(lines)
+    }
+
+    fn of(lines: Vec<(Kind, String)>) -> Draft {
         let lines = lines.into_iter().map(|(kind, line)| (kind, line.into_bytes())).collect();
         Draft { lines, tail: Vec::new(), cut: 0 }
     }
@@ -73,7 +91,12 @@ impl Draft {
     }
 }
 
-fn label_text(c: &Case, path: usize) -> String {
+/// The n of a path at any start: anchor + 2(start - 1) + width.
+pub fn steps(c: &Case, path: usize, start: i64) -> i64 {
+    i64::from(c.anchor) + 2 * (start - 1) + i64::from(c.widths[path])
+}
+
+pub fn label_text(c: &Case, path: usize) -> String {
     let bytes = c.labels[LABEL * path..LABEL * (path + 1)].iter().take_while(|&&b| b != 0);
     bytes.map(|&b| b as char).collect()
 }
@@ -222,10 +245,10 @@ fn damage_fields(rng: &mut Rng, d: &mut Draft, at: usize, what: usize) {
 fn out_of_range(rng: &mut Rng, d: &mut Draft, at: usize) {
     let value = match d.lines[at].0 {
         Kind::Paths => rng.pick(&[0, 129, 256, 257, 65_537, 99_999]),
-        Kind::Path => rng.pick(&[0, 65, 256, 257, 65_536, 65_537, 99_999]),
+        Kind::Path | Kind::Ordered => rng.pick(&[0, 65, 256, 257, 65_536, 65_537, 99_999]),
         Kind::Guards => rng.pick(&[2_001, 9_999, 65_536, 99_999]),
         Kind::Guard => rng.pick(&[33, 254, 255, 256, 257, 288, 65_536, 99_999]),
-        Kind::Starts => rng.pick(&[0, 129, 257, 65_537, 99_999]),
+        Kind::Starts | Kind::Order => rng.pick(&[0, 129, 257, 65_537, 99_999]),
         Kind::Start => rng.pick(&[0, 16_385, 65_535, 65_536, 65_537, 81_920, 99_999]),
     };
     change_number(&mut d.lines[at].1, |f| *f = value.to_string().into_bytes());
@@ -274,6 +297,7 @@ fn counted(d: &mut Draft, at: usize, change: impl FnOnce(&mut Vec<(Kind, Vec<u8>
         Kind::Path | Kind::Paths => Kind::Paths,
         Kind::Guard | Kind::Guards => Kind::Guards,
         Kind::Start | Kind::Starts => Kind::Starts,
+        Kind::Order | Kind::Ordered => Kind::Order,
     };
     let before = d.lines.len();
     change(&mut d.lines);
@@ -326,5 +350,62 @@ fn damage_end(rng: &mut Rng, d: &mut Draft, at: usize, what: usize) {
         }
         50 => d.tail = rng.pick(&["\n", " ", "starts 1\n", "starts 0\n", "#\n", "\0", "x"]).into(),
         _ => d.tail = some,
+    }
+}
+
+/// The number of kinds of damage to a path's line of an order sheet.
+pub const ORDER_DAMAGES: usize = 40;
+
+/// One damage of a kind at a path's line of an order sheet, whose fields are label, n and m. Some
+/// give another start, and are none.
+pub fn damage_order(rng: &mut Rng, d: &mut Draft, c: &Case, what: usize) {
+    let path = rng.below(c.n);
+    let Some(line) = d.lines.get(path + 1).map(|line| fields(&line.1)) else { return };
+    let [label, n, m] = &line[..] else { return };
+    let (mut label, mut n, mut m) = (label.clone(), n.clone(), m.clone());
+    let lowest = steps(c, path, 1);
+    let highest = steps(c, path, MAX_START as i64);
+    match what {
+        0..=7 => add(&mut n, [1, -1, 2, -2, 3, -3, 256, -256][what]),
+        8..=11 => add(&mut n, [32_768, -32_768, 65_536, -65_536][what - 8]),
+        12 => n = (lowest - rng.range(1, 4) as i64).to_string().into_bytes(),
+        13 => n = (highest + rng.range(1, 4) as i64).to_string().into_bytes(),
+        14 => n = rng.pick(&[lowest, lowest + 1, highest - 1, highest]).to_string().into_bytes(),
+        15 => n = rng.pick(&["99999", "-99999", "100000", "-100000", "0", "32767"]).into(),
+        16 => n = rng.pick(&["-0", "-", "+0", "00", "-00", "", "--", "0-"]).into(),
+        17 => n.insert(0, b'-'),
+        18 => n.insert(0, b'+'),
+        19 => n.insert(usize::from(n.first() == Some(&b'-')), b'0'),
+        20 => n.retain(|&b| b != b'-'),
+        21 => n.push(b'-'),
+        22 => n.resize(rng.range(6, 8), b'0'),
+        23 => n = rng.pick(&["-123456", "123456", "4294967297", "-4294967297", "1e3"]).into(),
+        24 => std::mem::swap(&mut n, &mut m),
+        25 => std::mem::swap(&mut label, &mut n),
+        26 => std::mem::swap(&mut label, &mut m),
+        27..=30 => add(&mut m, [1, -1, 256, 65_536][what - 27]),
+        31 => m.insert(0, b'-'),
+        32 => m.insert(0, b'0'),
+        // Two faults, or one that the other would make good.
+        33 => [&mut n, &mut m].into_iter().for_each(|field| add(field, 1)),
+        34 => {
+            add(&mut n, rng.pick(&[1, -1, 65_536]));
+            add(&mut m, rng.pick(&[2, 256, 65_536]));
+        }
+        35 | 36 => {
+            label = gen::label(rng, &[label]);
+            add(if what == 35 { &mut n } else { &mut m }, rng.pick(&[1, 65_536]));
+        }
+        37 => label = gen::label(rng, &[label]),
+        38 => label = label_text(c, rng.below(c.n)).into(),
+        _ => label.insert(0, b'0'),
+    }
+    d.lines[path + 1].1 = [label, n, m].join(&b' ');
+}
+
+/// Adds to a number, if the field is one.
+fn add(field: &mut Vec<u8>, more: i64) {
+    if let Ok(value) = String::from_utf8_lossy(field).parse::<i64>() {
+        *field = (value + more).to_string().into_bytes();
     }
 }

@@ -57,10 +57,10 @@ impl<T: Cell> Lent<T> {
 
 /// Makes a call: what stands before the tables, each table as a pointer and a length, the rest.
 macro_rules! call {
-    ($name:ident($($before:expr)?; $($table:ident),+; $($after:expr),*)) => {
+    ($name:ident($($before:expr),*; $($table:ident),+; $($after:expr),*)) => {
         // SAFETY: each pointer is to as many cells of memory of its own as the length says, and
         // may be written.
-        unsafe { sys::$name($($before,)? $($table.pointer(), $table.len(),)+ $($after),*) }
+        unsafe { sys::$name($($before,)* $($table.pointer(), $table.len(),)+ $($after),*) }
     };
 }
 
@@ -147,4 +147,32 @@ pub fn write(
 ) -> Answer {
     let r = call!(nesbrunka_write(n; labels, widths, guards, starts, text;));
     Answer::new(r.number, r.place, [r.length, 0])
+}
+
+/// Both calls for a centre: the number, and the double.
+pub fn centre(anchor: i32, start: usize, width: usize) -> (usize, f64) {
+    // SAFETY: these calls are lent nothing.
+    unsafe {
+        let number = sys::nesbrunka_centre_number(anchor, start, width);
+        (number, sys::nesbrunka_centre(anchor, start, width))
+    }
+}
+
+pub fn order_write(
+    anchor: i32, n: usize, labels: &mut Lent<u8>, widths: &mut Lent<u16>, guards: &mut Lent<u8>,
+    starts: &mut Lent<u16>, text: &mut Lent<u8>,
+) -> Answer {
+    let r = call!(nesbrunka_order_write(anchor, n; labels, widths, guards, starts, text;));
+    Answer::new(r.number, r.place, [r.length, 0])
+}
+
+pub fn order_read(
+    anchor: i32, text: &mut Lent<u8>, n: usize, labels: &mut Lent<u8>, widths: &mut Lent<u16>,
+    guards: &mut Lent<u8>, starts: &mut Lent<u16>,
+) -> Answer {
+    let (sheet, length) = (text.pointer(), text.len());
+    let r = call!(
+        nesbrunka_order_read(anchor, sheet, length, n; labels, widths, guards, starts;)
+    );
+    Answer::new(r.number, r.place, [0, 0])
 }

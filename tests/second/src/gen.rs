@@ -2,6 +2,7 @@
 
 use crate::compare::Case;
 use crate::net::*;
+use crate::order::MAX_ANCHOR;
 
 /// The generator splitmix64.
 pub struct Rng(u64);
@@ -219,7 +220,33 @@ pub fn case(rng: &mut Rng, n: usize, shape: Shape) -> Case {
     let mut aside = rng.aside();
     c.path = aside.below(n);
     c.chain = (0..PATHS).map(|_| junk_byte(&mut aside)).collect();
+    c.anchor = anchor(&mut aside);
     c
+}
+
+/// An anchor: one of the ends, near 0, or any.
+pub fn anchor(rng: &mut Rng) -> i32 {
+    match rng.below(4) {
+        0 => rng.pick(&[-MAX_ANCHOR, MAX_ANCHOR]),
+        1 => rng.range(0, 4) as i32 - 2,
+        _ => rng.range(0, 2 * MAX_ANCHOR as usize) as i32 - MAX_ANCHOR,
+    }
+}
+
+/// An anchor that is too far: one step, as far as can be, or in range once it is cut.
+pub fn wrong_anchor(rng: &mut Rng) -> i32 {
+    let cut = anchor(rng);
+    rng.pick(&[
+        -MAX_ANCHOR - 1,
+        MAX_ANCHOR + 1,
+        2 * MAX_ANCHOR,
+        cut + (1 << 16),
+        cut - (1 << 16),
+        cut + (1 << 24),
+        i32::MIN,
+        i32::MIN + 1,
+        i32::MAX,
+    ])
 }
 
 /// Tables of their sizes with no conflict among the n paths and, mostly, junk elsewhere.

@@ -1,9 +1,9 @@
 //! The independent second program: the rules written again, in plain Rust, and compared with
 //! the library through its C face.
 //!
-//! `net`, `rules`, `calls`, `sheet` and `ask` are the rules; `brute` looks for its promises in all
-//! orders, plans and sides; `gen` and `damage` make cases; `ffi` and `compare` make one
-//! comparison; `groups` are the groups of comparisons.
+//! `net`, `rules`, `calls`, `sheet`, `order` and `ask` are the rules; `brute` looks for its
+//! promises in all orders, plans and sides; `gen` and `damage` make cases; `ffi` and `compare` make
+//! one comparison; `groups` are the groups of comparisons.
 
 mod ask;
 mod brute;
@@ -16,6 +16,9 @@ mod figures;
 mod gen;
 mod groups;
 mod net;
+mod order;
+#[cfg(test)]
+mod order_figures;
 mod rules;
 mod sheet;
 
@@ -34,9 +37,9 @@ second [--seed S] [--minutes M] [--only CALL,..] [--groups GROUP,..] [--threads 
   --seed S      the seed of the random cases (default 1)
   --minutes M   goes on with new seeds until so many minutes have passed
   --only        calls to compare: judge pack press two_sides plan improve better floor why read
-                write program ask (default: all)
+                write program ask centre order_write order_read (default: all)
   --groups      groups to run: exhaustive sizes small large rounds faults sheets program clashes
-                chains ask floors
+                chains ask floors centres orders
   --threads T   threads (default: as many as there are processors)
   --trace       names each call and its case before it is made (for a library that crashes)
 second --print [WORD ..]  prints what the plan program has to print for standard input, or with

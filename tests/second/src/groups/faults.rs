@@ -2,6 +2,7 @@
 //! which one wins, at which place, and that nothing is changed.
 
 use crate::compare::{self, Case, Tally};
+use crate::damage::Draft;
 use crate::gen::{self, Rng, Shape, SHAPES};
 use crate::net::*;
 
@@ -19,6 +20,7 @@ pub fn piece(t: &mut Tally, rng: &mut Rng, number: usize) {
         if rng.percent(50) {
             c.starts = gen::any_plan(rng, &c);
         }
+        let order = Draft::order(&c).text();
         c.rounds = rng.pick(&[0, 1, 7]);
         if n < 5 && rng.percent(3) {
             c.rounds = MAX_ROUNDS;
@@ -32,10 +34,14 @@ pub fn piece(t: &mut Tally, rng: &mut Rng, number: usize) {
         }
         t.cases += 1;
         compare::all_calls(t, &c);
+        // With an order sheet that was right, too.
+        if k % 2 == 0 {
+            compare::order_read(t, &Case { text: order, ..c });
+        }
     }
 }
 
-const KINDS: usize = 20;
+const KINDS: usize = 21;
 
 /// One fault. The places are below n as it was; n itself may be wrong by then.
 fn fault(rng: &mut Rng, c: &mut Case, kind: usize) {
@@ -62,6 +68,7 @@ fn fault(rng: &mut Rng, c: &mut Case, kind: usize) {
         17 => c.starts.iter_mut().take(n).for_each(|s| *s = 0),
         18 => past_n(rng, c, n),
         19 => c.path = wrong_path(rng, n),
+        20 => c.anchor = gen::wrong_anchor(rng),
         _ => {}
     }
 }

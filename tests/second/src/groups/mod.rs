@@ -2,12 +2,15 @@
 //! so that the same seed compares the same cases on any number of threads.
 
 pub mod ask;
+pub mod centres;
 pub mod chains;
 pub mod clashes;
 pub mod exhaustive;
 pub mod faults;
 pub mod floors;
 pub mod large;
+pub mod order_lines;
+pub mod orders;
 pub mod program;
 pub mod rounds;
 pub mod sheets;
@@ -26,7 +29,7 @@ pub struct Group {
     pub piece: fn(&mut Tally, &mut Rng, usize),
 }
 
-pub const GROUPS: [Group; 12] = [
+pub const GROUPS: [Group; 14] = [
     Group {
         name: "exhaustive",
         counts: "networks",
@@ -104,5 +107,19 @@ pub const GROUPS: [Group; 12] = [
         pieces: floors::PIECES,
         random: true,
         piece: floors::piece,
+    },
+    Group {
+        name: "centres",
+        counts: "blocks",
+        pieces: centres::PIECES,
+        random: true,
+        piece: centres::piece,
+    },
+    Group {
+        name: "orders",
+        counts: "cases",
+        pieces: orders::PIECES,
+        random: true,
+        piece: orders::piece,
     },
 ];
