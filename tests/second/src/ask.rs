@@ -2,6 +2,7 @@
 
 use crate::calls;
 use crate::net::*;
+use crate::order;
 use crate::rules;
 use crate::sheet;
 
@@ -24,11 +25,23 @@ pub fn program(args: &[Vec<u8>], text: &[u8]) -> Vec<u8> {
         }
         [b"why", label] => Planned::read(text).and_then(|planned| planned.why(label)),
         [b"judge"] => Planned::read(text).and_then(|planned| planned.judge()),
-        _ => Err("The words are why and judge.".into()),
+        [b"order"] => Err("Say the anchor: order ANCHOR.".into()),
+        [b"order", anchor] => match anchor_in(anchor) {
+            None => Err("An anchor is a whole number, -1024 to 1024.".into()),
+            Some(anchor) => Planned::read(text).and_then(|planned| planned.order(anchor)),
+        },
+        _ => Err("The words are why, judge and order.".into()),
     };
     let mut lines = said.unwrap_or_else(|line: String| vec![line]);
     lines.iter_mut().for_each(|line| line.push('\n'));
     lines.concat().into_bytes()
+}
+
+/// An anchor in range, written as an order sheet's n.
+fn anchor_in(argument: &[u8]) -> Option<i32> {
+    let range = -order::MAX_ANCHOR..=order::MAX_ANCHOR;
+    let anchor = i32::try_from(order::signed(argument)?).ok()?;
+    range.contains(&anchor).then_some(anchor)
 }
 
 /// The lines of an answer, or the one line that is said in its place.
@@ -88,6 +101,17 @@ impl Planned {
             down => format!("{last} can come down {}.", slots(down)),
         });
         Ok(lines)
+    }
+
+    /// The order sheet of a valid plan.
+    fn order(&self, anchor: i32) -> Said {
+        self.clash(calls::judge(self.n, &self.widths, &self.guards, &self.starts))?;
+        let mut room = vec![0; order::LONGEST_ORDER];
+        let (labels, widths, guards) = (&self.labels, &self.widths, &self.guards);
+        let written = order::write(anchor, self.n, labels, widths, guards, &self.starts, &mut room);
+        assert_eq!(written.number, 0, "a plan that was read can be ordered");
+        let sheet = String::from_utf8_lossy(&room[..written.more[0]]).into_owned();
+        Ok(sheet.lines().map(String::from).collect())
     }
 
     /// With number 8: the labels of the pair, and how many slots are lacking.

@@ -559,10 +559,32 @@ fn ask_for_words() {
         assert_eq!(asked_of(words, "paths 0\n"), label);
     }
     assert_eq!(asked_of("why", ""), "Say which path: why LABEL.\n");
-    for words in ["", "Why A9", "judge A9", "why A9 A9", "why  ", "judges"] {
-        assert_eq!(asked_of(words, ""), "The words are why and judge.\n");
+    for words in ["", "Why A9", "judge A9", "why A9 A9", "why  ", "judges", "order 1 1", "Order 1"]
+    {
+        assert_eq!(asked_of(words, ""), "The words are why, judge and order.\n");
     }
-    assert_eq!(ask::program(&[], b""), b"The words are why and judge.\n");
+    assert_eq!(ask::program(&[], b""), b"The words are why, judge and order.\n");
+}
+
+/// Worked by hand from anchor 0: 0417 has its middle 2 steps up, 417 6 + 4, A9 18 + 1. A lower anchor
+/// lowers all of them.
+#[test]
+fn ask_order() {
+    let sheet = "order 3\n0417 2 2\n417 10 4\nA9 19 1\n";
+    assert_eq!(asked("order 0", [1, 4, 10]), sheet);
+    let lower = "order 3\n0417 -8 2\n417 0 4\nA9 9 1\n";
+    assert_eq!(asked("order -10", [1, 4, 10]), lower);
+    let ends = "order 3\n0417 -1022 2\n417 -1014 4\nA9 -1005 1\n";
+    assert_eq!(asked("order -1024", [1, 4, 10]), ends);
+    assert_eq!(asked("order 1024", [1, 3, 9]), "0417 and 417 clash: 1 slot short.\n");
+    assert_eq!(asked_of("order 1024", ASKED), "The sheet has no plan.\n");
+    assert_eq!(asked_of("order 1024", "paths 0\n"), "refused 1 line 1\n");
+    assert_eq!(asked_of("order", ""), "Say the anchor: order ANCHOR.\n");
+    for anchor in ["", "-", "-0", "+1", "01", "-01", "--1", "1025", "-1025", "100000", "65537", "A"]
+    {
+        let line = "An anchor is a whole number, -1024 to 1024.\n";
+        assert_eq!(asked_of(&format!("order {anchor}"), ASKED), line);
+    }
 }
 
 /// The longest sheet: RULES 13.

@@ -9,7 +9,10 @@ use crate::net::*;
 use crate::sheet;
 use std::ffi::OsStr;
 use std::io::{Read, Write};
+use std::net::Shutdown;
+use std::os::fd::OwnedFd;
 use std::os::unix::ffi::OsStrExt;
+use std::os::unix::net::UnixStream;
 use std::process::{Command, Stdio};
 use std::thread;
 use std::time::Duration;
@@ -121,4 +124,20 @@ pub fn run(program: &str, args: &[Vec<u8>], text: &[u8], step: usize) -> Vec<u8>
         Ok(status) if status.code().is_some() => printed,
         other => format!("(ended: {other:?}) {}", printed.escape_ascii()).into_bytes(),
     }
+}
+
+/// What a program prints, and after it what it has left of its input, which is short.
+pub fn run_and_left(program: &str, args: &[Vec<u8>], text: &[u8]) -> Vec<u8> {
+    let run = || {
+        let (mut ours, mut theirs) = UnixStream::pair()?;
+        ours.write_all(text)?;
+        ours.shutdown(Shutdown::Write)?;
+        let args = args.iter().map(|arg| OsStr::from_bytes(arg));
+        let mut command = Command::new(program);
+        let input = Stdio::from(OwnedFd::from(theirs.try_clone()?));
+        let mut printed = command.args(args).stdin(input).output()?.stdout;
+        theirs.read_to_end(&mut printed)?;
+        Ok(printed)
+    };
+    run().unwrap_or_else(|e: std::io::Error| format!("(not run: {e})").into_bytes())
 }
