@@ -50,8 +50,9 @@ fn answers(t: &mut Tally, rng: &mut Rng, c: &Case, text: &[u8], number: usize, l
     let Some((answer, _)) = reading(t, rng, c, text.to_vec()) else { return };
     let right = answer == Answer::new(number, line, [0, 0]);
     let what = format!("the reading answers {number} at line {line}");
-    let c = Case { text: text.to_vec(), ..c.clone() };
-    t.check_of(Call::OrderRead, &what, &c, right);
+    // The case is shown, and so copied, only where it is wrong.
+    let shown = (!right).then(|| Case { text: text.to_vec(), ..c.clone() });
+    t.check_of(Call::OrderRead, &what, &shown.unwrap_or_default(), right);
 }
 
 /// One damage of each kind in turn, now and then with more: of any sheet at the count line and at a
@@ -328,9 +329,10 @@ fn lines_moved(t: &mut Tally, rng: &mut Rng) {
     drafts.iter().for_each(|draft| drop(reading(t, rng, &c, draft.text())));
 }
 
-/// Every beginning of a right sheet is refused 11 at the line that is missing or has no end.
-pub fn beginnings(t: &mut Tally, rng: &mut Rng, c: &Case, sheet: &[u8]) {
-    for length in 0..sheet.len() {
+/// A beginning of a right sheet is refused 11 at the line that is missing or has no end: all of them,
+/// or of a long one some.
+pub fn beginnings(t: &mut Tally, rng: &mut Rng, c: &Case, sheet: &[u8], step: usize) {
+    for length in (0..sheet.len()).rev().step_by(step) {
         let lines = sheet[..length].iter().filter(|&&b| b == b'\n').count();
         answers(t, rng, c, &sheet[..length], 11, lines + 1);
     }
@@ -371,7 +373,7 @@ fn every_byte(t: &mut Tally, rng: &mut Rng, part: usize) {
         let sheet = Draft::order(&c).text();
         if part == 0 {
             answers(t, rng, &c, &sheet, 0, 0);
-            beginnings(t, rng, &c, &sheet);
+            beginnings(t, rng, &c, &sheet, 1);
             too_much(t, rng, &c, &sheet);
             (1..sheet.len()).for_each(|from| answers(t, rng, &c, &sheet[from..], 11, 1));
         }

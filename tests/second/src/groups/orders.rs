@@ -136,7 +136,8 @@ fn every_room(t: &mut Tally, rng: &mut Rng) {
     (0..length + 4).for_each(|room| room_of(t, &mut c, length, room));
 }
 
-/// The longest order sheet in every room, every beginning of it, and more than it.
+/// The longest order sheet in rooms of all lengths, seven bytes apart and at its end each, beginnings
+/// of it, and more than it.
 fn longest(t: &mut Tally, rng: &mut Rng) {
     let mut c = bare(gen::longest(rng));
     let sheet = Draft::order(&c).text();
@@ -144,9 +145,10 @@ fn longest(t: &mut Tally, rng: &mut Rng) {
     t.check_of(Call::OrderWrite, "the longest order sheet has 2,314 bytes", &c, long);
     t.cases += 1;
     there_and_back(t, rng, &c);
-    order_lines::beginnings(t, rng, &c, &sheet);
+    order_lines::beginnings(t, rng, &c, &sheet, 7);
     order_lines::too_much(t, rng, &c, &sheet);
-    (0..LONGEST_ORDER + 4).for_each(|room| room_of(t, &mut c, LONGEST_ORDER, room));
+    let rooms = (0..LONGEST_ORDER).step_by(7).chain(LONGEST_ORDER - 20..LONGEST_ORDER + 4);
+    rooms.for_each(|room| room_of(t, &mut c, LONGEST_ORDER, room));
 }
 
 /// More pairs than a sheet may have: an order sheet has none of them.
