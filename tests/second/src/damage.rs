@@ -363,8 +363,9 @@ pub fn damage_order(rng: &mut Rng, d: &mut Draft, c: &Case, what: usize) {
     let Some(line) = d.lines.get(path + 1).map(|line| fields(&line.1)) else { return };
     let [label, n, m] = &line[..] else { return };
     let (mut label, mut n, mut m) = (label.clone(), n.clone(), m.clone());
-    let lowest = steps(c, path, 1);
-    let highest = steps(c, path, MAX_START as i64);
+    let (lowest, highest) = (steps(c, path, 1), steps(c, path, MAX_START as i64));
+    // The line may be damaged already, and its label empty.
+    let near = gen::label(rng, &[label_text(c, path).into()]);
     match what {
         0..=7 => add(&mut n, [1, -1, 2, -2, 3, -3, 256, -256][what]),
         8..=11 => add(&mut n, [32_768, -32_768, 65_536, -65_536][what - 8]),
@@ -393,10 +394,10 @@ pub fn damage_order(rng: &mut Rng, d: &mut Draft, c: &Case, what: usize) {
             add(&mut m, rng.pick(&[2, 256, 65_536]));
         }
         35 | 36 => {
-            label = gen::label(rng, &[label]);
+            label = near;
             add(if what == 35 { &mut n } else { &mut m }, rng.pick(&[1, 65_536]));
         }
-        37 => label = gen::label(rng, &[label]),
+        37 => label = near,
         38 => label = label_text(c, rng.below(c.n)).into(),
         _ => label.insert(0, b'0'),
     }
