@@ -2,6 +2,7 @@
 // slice is a pointer and then a length.
 use rules::Fault;
 use rules::Floored;
+use rules::OrderRead;
 use rules::Packed;
 use rules::Planned;
 use rules::Pressed;
@@ -11,7 +12,7 @@ use rules::Sided;
 use rules::Why;
 ghost use mathlib.Core.Path.{_≡_};
 ghost use Rattle.rules.specs.Tables.{lend};
-ghost use Rattle.rules.specs.Calls.{left, judging, packing, pressing, explaining, siding, improving, planning, flooring, reading, writing};
+ghost use Rattle.rules.specs.Calls.{left, judging, packing, pressing, explaining, siding, improving, planning, flooring, reading, writing, centring, centreNumber, orderWriting, orderReading};
 ghost use Rattle.rules.specs.Better.{comparing};
 
 #[no_mangle]
@@ -165,4 +166,52 @@ pub extern "C" fn nesbrunka_write(
         (now (starts .entry)) (now (text .entry)) ⌝ }
 {
     sheet::write(n, labels, widths, guards, starts, text)
+}
+
+#[no_mangle]
+pub extern "C" fn nesbrunka_centre(anchor: i32, start: usize, width: usize) -> f64
+    ensures { λ r. ⌜ r ≡ centring anchor start width ⌝ }
+{
+    grid::centre(anchor, start, width)
+}
+
+#[no_mangle]
+pub extern "C" fn nesbrunka_centre_number(anchor: i32, start: usize, width: usize) -> usize
+    ensures { λ r. ⌜ r ≡ centreNumber anchor start width ⌝ }
+{
+    grid::centre_number(anchor, start, width)
+}
+
+#[no_mangle]
+pub extern "C" fn nesbrunka_order_write(
+    anchor: i32,
+    n: usize,
+    labels: &[u8],
+    widths: &[u16],
+    guards: &[u8],
+    starts: &[u16],
+    text: &mut [u8],
+) -> SheetWritten
+    ensures { λ r. ⌜ left r (now (text .exit))
+        ≡ orderWriting anchor n (now (labels .entry)) (lend (now (widths .entry)) (now (guards .entry)))
+        (now (starts .entry)) (now (text .entry)) ⌝ }
+{
+    order::order_write(anchor, n, labels, widths, guards, starts, text)
+}
+
+#[no_mangle]
+pub extern "C" fn nesbrunka_order_read(
+    anchor: i32,
+    text: &[u8],
+    n: usize,
+    labels: &[u8],
+    widths: &[u16],
+    guards: &[u8],
+    starts: &mut [u16],
+) -> OrderRead
+    ensures { λ r. ⌜ left r (now (starts .exit))
+        ≡ orderReading anchor (now (text .entry)) n (now (labels .entry))
+        (lend (now (widths .entry)) (now (guards .entry))) (now (starts .entry)) ⌝ }
+{
+    order::order_read(anchor, text, n, labels, widths, guards, starts)
 }
