@@ -43,6 +43,14 @@ pub fn counted(anchor: i32) -> usize
     (anchor + 100000) as usize
 }
 
+// The number that is counted as u.
+pub fn uncounted(u: usize) -> i32
+    requires { ⌜ u < 200000 ⌝ }
+    ensures { λ r. ⌜ r ≡ lowered u ⌝ }
+{
+    u as i32 - 100000
+}
+
 // n of a block.
 pub fn number(anchor: usize, start: usize, width: usize) -> usize
     requires { ⌜ (98976 ≤ anchor) × (anchor ≤ 101024) × (1 ≤ start) × (start ≤ 16384) × (width ≤ 64) ⌝ }

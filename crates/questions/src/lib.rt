@@ -1,5 +1,6 @@
 // An inner crate of the ask program (RULES 26): what its arguments ask for, the path that a label names, and the
 // highest slot of a plan.
+use text::Amount;
 use text::Next;
 ghost use mathlib.Core.Path.{_≡_};
 ghost use mathlib.Core.Bool.{true, false};
@@ -8,18 +9,22 @@ ghost use Prim.Native.Nat.{ℕ, _≤_, _<_};
 ghost use lib.ListN.{length};
 ghost use Rattle.rules.specs.Tables.{at, lend};
 ghost use Rattle.rules.specs.Plan.{netOf, highest};
-ghost use Rattle.rules.specs.Text.{label, word};
+ghost use Rattle.rules.specs.Text.{label, word, orderWord};
 ghost use Rattle.rules.specs.Sheet.{find};
-ghost use Rattle.rules.specs.Asking.{isWhole, asked};
-ghost use Rattle.questions.specs.Asks.{Asks};
+ghost use Rattle.rules.specs.Asking.{isWhole, whyWord, asked};
+ghost use Rattle.questions.specs.Asks.{AsksOrder, Asks};
 
-// What the arguments ask for: why a path stands where it stands, or whether the plan is valid. The others are
-// answered without a sheet: no label is given, what is given is none, or the words are others.
+// What the arguments ask for: why a path stands where it stands, whether the plan is valid, or its order sheet from an
+// anchor, which is counted from -100,000. The others are answered without a sheet: no label or anchor is given, what is
+// given is none, or the words are others.
 pub enum Question {
     Reason,
     Verdict,
+    Order(usize),
     NoLabel,
     BadLabel,
+    NoAnchor,
+    BadAnchor,
     NoWord,
 }
 
@@ -44,21 +49,62 @@ fn is_label(arg: &[u8]) -> bool
     end == arg.len()
 }
 
+// What `why` asks for, with so many arguments of which the second is given.
+fn why_asked(count: usize, second: &[u8]) -> Question
+    ensures { λ r. ⌜ ((first : List ℕ) → isWhole (word whyWord first) ≡ true
+        → Asks count first (now (second .entry)) r) ⌝ }
+{
+    if count == 1 {
+        return Question::NoLabel;
+    }
+    if count != 2 {
+        return Question::NoWord;
+    }
+    if is_label(second) {
+        return Question::Reason;
+    }
+    Question::BadLabel
+}
+
+// What an anchor asks for: all of an argument is one, and it is within its range.
+fn anchor_asked(second: &[u8]) -> Question
+    ensures { λ r. ⌜ AsksOrder (now (second .entry)) r ⌝ }
+{
+    let Amount::Is(anchor, end) = text::signed(second, 0) else {
+        return Question::BadAnchor;
+    };
+    if end != second.len() {
+        return Question::BadAnchor;
+    }
+    if grid::anchor_fault(grid::uncounted(anchor)).number != 0 {
+        return Question::BadAnchor;
+    }
+    Question::Order(anchor)
+}
+
+// What `order` asks for, likewise.
+fn order_asked(count: usize, second: &[u8]) -> Question
+    ensures { λ r. ⌜ ((first : List ℕ) → isWhole (word whyWord first) ≡ false
+        → isWhole (word orderWord first) ≡ true → Asks count first (now (second .entry)) r) ⌝ }
+{
+    if count == 1 {
+        return Question::NoAnchor;
+    }
+    if count != 2 {
+        return Question::NoWord;
+    }
+    anchor_asked(second)
+}
+
 // What so many arguments ask for, of which the first two are given.
 pub fn asked_for(count: usize, first: &[u8], second: &[u8]) -> Question
     ensures { λ r. ⌜ Asks count (now (first .entry)) (now (second .entry)) r ⌝ }
 {
     if is_word(first, b"why") {
-        if count == 1 {
-            return Question::NoLabel;
-        }
-        if count != 2 {
-            return Question::NoWord;
-        }
-        if is_label(second) {
-            return Question::Reason;
-        }
-        return Question::BadLabel;
+        return why_asked(count, second);
+    }
+    if is_word(first, &text::ORDER_WORD) {
+        return order_asked(count, second);
     }
     if count != 1 {
         return Question::NoWord;
@@ -78,8 +124,11 @@ pub fn needs_input(count: usize, first: &[u8], second: &[u8]) -> bool
     match asked_for(count, first, second) {
         Question::Reason => true,
         Question::Verdict => true,
+        Question::Order(_) => true,
         Question::NoLabel => false,
         Question::BadLabel => false,
+        Question::NoAnchor => false,
+        Question::BadAnchor => false,
         Question::NoWord => false,
     }
 }
