@@ -4,21 +4,25 @@ use mathlib.Core.Path.{_≡_, refl, sym, ap, subst, _∙_}
 use mathlib.Core.Logic.{_≢_, _⊎_, inl, inr}
 use mathlib.Core.Bool.{Bool, true, false, cond}
 use mathlib.Core.List.{List, [], _++_}
+use lib.Dec.{eqb}
+use lib.IntN.{ℤ}
 use lib.ListN.{length, take, drop, replicate, length-append}
 use lib.Seq.{take-append-seam}
 use native.Mathlib.Omega.{arith}
 use borrow.Author.Tests.{eq-eqb, ne-eqb}
 use Rattle.rules.specs.declared.Fault.{Fault}
 use Rattle.rules.specs.declared.Why.{Why}
+use Rattle.rules.specs.declared.SheetWritten.{SheetWritten}
 use Rattle.rules.specs.Tables.{at, cell, cleared, Lent, lend}
 use Rattle.rules.specs.Limits.{Network, Starts}
 use Rattle.rules.specs.Scan.{first, found, firstRow, foundPair}
 use Rattle.rules.specs.Plan.{Net, netOf, past, highest, isLower, short, tooClose}
 use Rattle.rules.specs.Reason.{chain, bottom, down, last, Chain}
 use Rattle.rules.specs.Sheet.{find}
-use Rattle.rules.specs.Numbers.{_orElse_, noFault, scan, square, sizeFault, pathFault, startFault, clashFault, lentFault, planSizes, judgeFault, whyFault}
-use Rattle.rules.specs.Calls.{Left, left, judging, refusedWhy, doneWhy, explaining}
-use Rattle.rules.specs.Asking.{reasonText, validText, refusedText, whyText, judgeText}
+use Rattle.rules.specs.Numbers.{_orElse_, noFault, scan, square, sizeFault, pathFault, startFault, clashFault, lentFault, planSizes, judgeFault, whyFault, orderWriteFault}
+use Rattle.rules.specs.Grid.{orderText}
+use Rattle.rules.specs.Calls.{Left, left, judging, refusedWhy, doneWhy, explaining, unless, refusedWritten, doneWritten, orderWriting}
+use Rattle.rules.specs.Asking.{reasonText, validText, refusedText, whyText, judgeText, orderedText}
 use Rattle.table_laws.specs.Scans.{found-first}
 use Rattle.table_laws.specs.Faults.{or-first, or-second, or-past, size-clear, never-refuse, never-or, never-size, never-lent}
 use Rattle.table_laws.specs.Chains.{lent-clear, plan-sizes}
@@ -233,3 +237,31 @@ module _ (name : List ℕ) (n : ℕ) (labels widths guards starts table table′
 pub blank-chain : replicate 128 0 ≡ cleared 128 0
 unfolding cleared
 blank-chain = refl
+
+-- the order sheet, where the plan is valid
+module _ (anchor : ℤ) (n : ℕ) (labels : List ℕ) (lent : Lent) (starts : List ℕ) (f : Fault) (e : f ≡ judging n lent starts) where
+  pub order-refused : f .number ≢ 0 → refusedText labels [] (f .number) (f .place) (f .short) ≡ orderedText anchor n labels lent starts
+  unfolding orderedText
+  order-refused z = sym (rw (← e, ne-eqb (f .number) 0 z))
+
+  module _ (table table′ : List ℕ) (r : SheetWritten) (z : table ≡ cleared 2314 0) (w : _≡_ {A = Left SheetWritten (List ℕ)} (left r table′) (orderWriting anchor n labels lent starts table)) where
+    pub order-done : f .number ≡ 0 → take (r .length) table′ ≡ orderedText anchor n labels lent starts
+    unfolding orderedText
+    order-done q =
+        let said = w ∙ ap (λ (t : List ℕ). orderWriting anchor n labels lent starts t) z in
+        sym (rw (← e, eq-eqb (f .number) 0 q, ← said))
+
+    pub order-within : r .length ≤ length table′
+    unfolding orderWriting unless
+    order-within = go (eqb (orderWriteFault anchor n labels lent starts table .number) 0) w
+      where
+        sheet : List ℕ
+        sheet = orderText anchor n labels (lent .widths) starts
+
+        go : (b : Bool) → _≡_ {A = Left SheetWritten (List ℕ)} (left r table′) (cond b (doneWritten sheet table) (refusedWritten table (orderWriteFault anchor n labels lent starts table))) → r .length ≤ length table′
+        go true g = omega (arith, ap (λ (x : Left SheetWritten (List ℕ)). x .answer .length) g, ap (λ (x : Left SheetWritten (List ℕ)). length (x .tables)) g, length-append sheet (drop (length sheet) table))
+        go false g = omega (arith, ap (λ (x : Left SheetWritten (List ℕ)). x .answer .length) g)
+
+pub blank-order : replicate 2314 0 ≡ cleared 2314 0
+unfolding cleared
+blank-order = refl

@@ -1,10 +1,11 @@
-// An inner crate of the ask program (RULES 26): the two answers on a sheet that was read.
+// An inner crate of the ask program (RULES 26): the answers on a sheet that was read.
 ghost use mathlib.Core.Path.{_≡_};
-ghost use Prim.Native.Nat.{_≤_};
+ghost use Prim.Native.Nat.{_≤_, _<_};
 ghost use lib.ListN.{length};
 ghost use Rattle.rules.specs.Tables.{lend};
-ghost use Rattle.rules.specs.Asking.{whyText, judgeText};
+ghost use Rattle.rules.specs.Asking.{whyText, judgeText, orderedText};
 ghost use Rattle.sheet_laws.specs.Sizes.{Sized};
+ghost use Rattle.sheet_laws.specs.Grid.{lowered};
 ghost use Rattle.spelling.specs.Says.{Wrote};
 
 // Why the path of a name stands where it stands, of a sheet that was read.
@@ -54,4 +55,38 @@ pub fn judge_text(
         return phrases::put_refused(out, labels, b"", fault.number, fault.place, fault.short);
     }
     phrases::put_valid(out, questions::highest_slot(n, widths, starts))
+}
+
+// The order sheet of a sheet that was read, from an anchor that is counted from -100,000. Only a valid plan is ordered.
+pub fn order_text(
+    anchor: usize,
+    n: usize,
+    labels: &[u8],
+    widths: &[u16],
+    guards: &[u8],
+    starts: &[u16],
+    out: &mut [u8],
+) -> usize
+    requires { ⌜ (anchor < 200000) × (length (now labels) ≡ 1024) × (9000 ≤ length (now out)) ⌝ }
+    ensures { λ r. ⌜ Wrote (now (out .entry)) 0
+        (orderedText (lowered anchor) n (now (labels .entry))
+        (lend (now (widths .entry)) (now (guards .entry))) (now (starts .entry))) r (now (out .exit)) ⌝ }
+    ensures { λ r. ⌜ r ≤ 9000 ⌝ }
+{
+    let fault = packing::judge(n, widths, guards, starts);
+    if fault.number != 0 {
+        return phrases::put_refused(out, labels, b"", fault.number, fault.place, fault.short);
+    }
+    let mut sheet = [0u8; rules::ORDER_MOST];
+    let written = order::order_write(
+        grid::uncounted(anchor),
+        n,
+        labels,
+        widths,
+        guards,
+        starts,
+        &mut sheet,
+    );
+    let m = written.length;
+    spelling::put_word(out, 0, &sheet[..m])
 }
