@@ -2,18 +2,19 @@
 // printed.
 use questions::Question;
 ghost use mathlib.Core.Path.{_≡_};
-ghost use Prim.Native.Nat.{_≤_};
+ghost use Prim.Native.Nat.{_≤_, _<_};
 ghost use lib.ListN.{length};
 ghost use Rattle.rules.specs.Program.{refusalText, onSheet};
-ghost use Rattle.rules.specs.Asking.{whyText, judgeText, asked};
+ghost use Rattle.rules.specs.Asking.{whyText, judgeText, orderedText, asked};
 ghost use Rattle.sheet_laws.specs.Sizes.{Sized};
+ghost use Rattle.sheet_laws.specs.Grid.{lowered};
 ghost use Rattle.spelling.specs.Says.{Wrote};
 ghost use Rattle.console.specs.Made.{Made};
 
 // Room for the longest answer: a chain of all 128 paths, whose links have at most 68 bytes each.
 pub const ANSWER_MOST: usize = 9000;
 
-// The two answers from the input on, which the reader may refuse.
+// The answers from the input on, which the reader may refuse.
 fn why_answer(
     name: &[u8],
     input: &[u8],
@@ -56,6 +57,28 @@ fn judge_answer(
     answers::judge_text(got.n, labels, widths, guards, starts, out)
 }
 
+fn order_answer(
+    anchor: usize,
+    input: &[u8],
+    labels: &mut [u8],
+    widths: &mut [u16],
+    guards: &mut [u8],
+    starts: &mut [u16],
+    out: &mut [u8],
+) -> usize
+    requires { ⌜ Sized (now labels) (now widths) (now guards) (now starts) × (anchor < 200000)
+        × (9000 ≤ length (now out)) ⌝ }
+    ensures { λ r. ⌜ Wrote (now (out .entry)) 0
+        (onSheet refusalText (orderedText (lowered anchor)) (now (input .entry))) r (now (out .exit)) ⌝ }
+    ensures { λ r. ⌜ r ≤ 9000 ⌝ }
+{
+    let got = sheet::read(input, labels, widths, guards, starts);
+    if got.number != 0 {
+        return console::refuse(out, got.number, got.place);
+    }
+    answers::order_text(anchor, got.n, labels, widths, guards, starts, out)
+}
+
 // From the arguments, how many there are and the first two of them, and the input to what is printed: so many
 // bytes of a lent text that has room for the longest answer. The four tables are for the work. Where the input
 // has 65,536 bytes or more, whatever comes after them changes nothing.
@@ -78,10 +101,17 @@ pub fn answer(
     match questions::asked_for(count, first, second) {
         Question::Reason => why_answer(second, input, labels, widths, guards, starts, out),
         Question::Verdict => judge_answer(input, labels, widths, guards, starts, out),
+        Question::Order(anchor) => {
+            order_answer(anchor, input, labels, widths, guards, starts, out)
+        }
         Question::NoLabel => spelling::put_word(out, 0, b"Say which path: why LABEL.\n"),
         Question::BadLabel => {
             spelling::put_word(out, 0, b"A label has 1 to 8 capitals, digits or hyphens.\n")
         }
-        Question::NoWord => spelling::put_word(out, 0, b"The words are why and judge.\n"),
+        Question::NoAnchor => spelling::put_word(out, 0, b"Say the anchor: order ANCHOR.\n"),
+        Question::BadAnchor => {
+            spelling::put_word(out, 0, b"An anchor is a whole number, -1024 to 1024.\n")
+        }
+        Question::NoWord => spelling::put_word(out, 0, b"The words are why, judge and order.\n"),
     }
 }

@@ -50,13 +50,7 @@ fn lines_length(anchor: usize, n: usize, labels: &[u8], widths: &[u16], starts: 
 }
 
 // The length of the whole order sheet.
-pub fn order_length(
-    anchor: usize,
-    n: usize,
-    labels: &[u8],
-    widths: &[u16],
-    starts: &[u16],
-) -> usize
+pub fn order_length(anchor: usize, n: usize, labels: &[u8], widths: &[u16], starts: &[u16]) -> usize
     requires { ⌜ Ready anchor n (now labels) (now widths) (now starts) ⌝ }
     ensures { λ r. ⌜ r ≡ length
         (orderText (lowered anchor) n (now (labels .entry)) (now (widths .entry)) (now (starts .entry))) ⌝ }

@@ -86,9 +86,10 @@ returns-2 c =
     let j = c .before .before .before .before .before .before .before .before .before .before .before .judge in
     let w = c .before .before .before .before .before .before .order-write in
     let f = c .before .before .put-word in
-    let t = w .last .1 .1 .1 .1 .1 .1 .0 in
-    (retold (now (a .out)) (f .last .0) (take (w .result .length) t) (orderedText (lowered (a .anchor)) (a .n) (now (a .labels)) (lend (now (a .widths)) (now (a .guards))) (now (a .starts))) 0 (f .result) (order-done (lowered (a .anchor)) (a .n) (now (a .labels)) (lend (now (a .widths)) (now (a .guards))) (now (a .starts)) (j .result) (j .ensures) (replicate 2314 0) t (w .result) blank-order (wrote (c .before .before .before .before .before .before)) (c .before .before .before .before .before .before .before .before .before .if1 .left)) (f .ensures),
-    omega (arith, f .ensures .0, length-take (w .result .length) t, w .kept .1 .1 .1 .1 .1 .1 .0, ap length blank-order, cleared-length 2314 0))
+    let t = w .last .1 .1 .1 .1 .1 .1 .0 in (
+      retold (now (a .out)) (f .last .0) (take (w .result .length) t) (orderedText (lowered (a .anchor)) (a .n) (now (a .labels)) (lend (now (a .widths)) (now (a .guards))) (now (a .starts))) 0 (f .result) (order-done (lowered (a .anchor)) (a .n) (now (a .labels)) (lend (now (a .widths)) (now (a .guards))) (now (a .starts)) (j .result) (j .ensures) (replicate 2314 0) t (w .result) blank-order (wrote (c .before .before .before .before .before .before)) (c .before .before .before .before .before .before .before .before .before .if1 .left)) (f .ensures),
+      omega (arith, f .ensures .0, length-take (w .result .length) t, w .kept .1 .1 .1 .1 .1 .1 .0, ap length blank-order, cleared-length 2314 0),
+    )
 
 pub order-text-spec : {M : Type 1} → statement M
 order-text-spec =

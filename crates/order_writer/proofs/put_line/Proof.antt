@@ -45,14 +45,17 @@ put-word-requires : tie.Need-put-word-requires
 put-word-requires c κs = omega (arith, whole (c .before .before .before .before .before .before .before), c .before .before .before .before .before .before .before .before .before .before .before .before .pre .1, c .before .before .before .before .put-label .ensures .0, c .before .before .before .before .put-label .kept)
 
 put-signed-requires : tie.Need-put-signed-requires
-put-signed-requires c κs =
-    (c .before .before .before .before .before .before .before .before .before .before .before .line-number .ensures .1, c .before .before .before .before .before .before .before .before .before .before .before .line-number .ensures .2,
-    omega (arith, whole (c .before .before .before .before .before .before .before .before .before .before .before), c .before .before .before .before .before .before .before .before .before .before .before .before .before .before .before .before .pre .1, c .before .before .before .before .before .before .before .before .put-label .ensures .0, c .before .before .before .before .before .before .before .before .put-label .kept, c .before .before .before .put-word .ensures .0, c .before .before .before .put-word .kept))
+put-signed-requires c κs = (
+  c .before .before .before .before .before .before .before .before .before .before .before .line-number .ensures .1,
+  c .before .before .before .before .before .before .before .before .before .before .before .line-number .ensures .2,
+  omega (arith, whole (c .before .before .before .before .before .before .before .before .before .before .before), c .before .before .before .before .before .before .before .before .before .before .before .before .before .before .before .before .pre .1, c .before .before .before .before .before .before .before .before .put-label .ensures .0, c .before .before .before .before .before .before .before .before .put-label .kept, c .before .before .before .put-word .ensures .0, c .before .before .before .put-word .kept),
+)
 
 put-last-requires : tie.Need-put-last-requires
-put-last-requires c κs =
-    (omega (arith, c .before .before .before .before .before .before .before .before .before .before .before .before .before .before .before .before .before .before .before .before .pre .0 .narrow),
-    omega (arith, whole (c .before .before .before .before .before .before .before .before .before .before .before .before .before .before .before), c .before .before .before .before .before .before .before .before .before .before .before .before .before .before .before .before .before .before .before .before .pre .1, c .before .before .before .before .before .before .before .before .before .before .before .before .put-label .ensures .0, c .before .before .before .before .before .before .before .before .before .before .before .before .put-label .kept, c .before .before .before .before .before .before .before .put-word .ensures .0, c .before .before .before .before .before .before .before .put-word .kept, c .before .before .before .put-signed .ensures .0, c .before .before .before .put-signed .kept))
+put-last-requires c κs = (
+  omega (arith, c .before .before .before .before .before .before .before .before .before .before .before .before .before .before .before .before .before .before .before .before .pre .0 .narrow),
+  omega (arith, whole (c .before .before .before .before .before .before .before .before .before .before .before .before .before .before .before), c .before .before .before .before .before .before .before .before .before .before .before .before .before .before .before .before .before .before .before .before .pre .1, c .before .before .before .before .before .before .before .before .before .before .before .before .put-label .ensures .0, c .before .before .before .before .before .before .before .before .before .before .before .before .put-label .kept, c .before .before .before .before .before .before .before .put-word .ensures .0, c .before .before .before .before .before .before .before .put-word .kept, c .before .before .before .put-signed .ensures .0, c .before .before .before .put-signed .kept),
+)
 
 same-length : tie.Need-same-length
 same-length c = search needs
