@@ -46,3 +46,5 @@ pub mod OnProgram
 pub mod OnAsking
 pub mod LongestSheet
 pub mod SheetForm
+-- the grid: RULES 27
+pub mod Grid
