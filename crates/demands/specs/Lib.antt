@@ -48,3 +48,5 @@ pub mod LongestSheet
 pub mod SheetForm
 -- the grid: RULES 27
 pub mod Grid
+pub mod Orderable
+pub mod LongestOrder

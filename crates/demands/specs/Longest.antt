@@ -44,7 +44,7 @@ four-digits v b = go (decLt v 10)
     go (no l) = omega (arith, digits-more v (omega arith) (omega arith), three-digits (v / 10) (omega arith))
 
 -- lines of at most b bytes each; texts of at most b bytes for each mark
-join-most : (b m k : ℕ) (f : ℕ → List ℕ) → ((i : ℕ) → i < k + m → length (f i) ≤ b) → length (joinFrom m k f) ≤ m * b
+pub join-most : (b m k : ℕ) (f : ℕ → List ℕ) → ((i : ℕ) → i < k + m → length (f i) ≤ b) → length (joinFrom m k f) ≤ m * b
 unfolding joinFrom
 join-most b zero k f h = omega arith
 join-most b (suc m) k f h = omega (arith, length-append (f k) (joinFrom m (suc k) f), h k (omega arith), join-most b m (suc k) f (λ i l. h i (omega arith)))

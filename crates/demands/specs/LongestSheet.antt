@@ -176,7 +176,7 @@ row-label labels w k long l has f =
 longest-row : (k : ℕ) → k < 128 → labelOf longestLabels k ≡ longestLabel k
 longest-row k l = row-label longestLabels (longestLabel k) k labels-size l (longest-has k l) (longest-label k l)
 
-eight-bytes : (k : ℕ) → k < 128 → length (labelOf longestLabels k) ≡ 8
+pub eight-bytes : (k : ℕ) → k < 128 → length (labelOf longestLabels k) ≡ 8
 unfolding longestLabel
 eight-bytes k l = ap length (longest-row k l)
 
@@ -282,7 +282,7 @@ longest-writable = record {
 }
 
 -- texts of so many bytes each
-join-exact : (b m k : ℕ) (f : ℕ → List ℕ) → ((i : ℕ) → i < k + m → length (f i) ≡ b) → length (joinFrom m k f) ≡ m * b
+pub join-exact : (b m k : ℕ) (f : ℕ → List ℕ) → ((i : ℕ) → i < k + m → length (f i) ≡ b) → length (joinFrom m k f) ≡ m * b
 unfolding joinFrom
 join-exact b zero k f h = omega arith
 join-exact b (suc m) k f h = omega (arith, length-append (f k) (joinFrom m (suc k) f), h k (omega arith), join-exact b m (suc k) f (λ i l. h i (omega arith)))
