@@ -55,12 +55,12 @@ both : (a b : Bool) → (a && b) ≡ true → (a ≡ true) × (b ≡ true)
 both true b e = (refl, e)
 both false b e = absurd (false≢true e)
 
-then-some : {A B : Type 0} (p : Parsed A) (k : A → List ℕ → Parsed B) (b : B) (l : List ℕ) → then p k ≡ some b l → (a : A) × (l₁ : List ℕ) × (p ≡ some a l₁) × (k a l₁ ≡ some b l)
+pub then-some : {A B : Type 0} (p : Parsed A) (k : A → List ℕ → Parsed B) (b : B) (l : List ℕ) → then p k ≡ some b l → (a : A) × (l₁ : List ℕ) × (p ≡ some a l₁) × (k a l₁ ≡ some b l)
 unfolding then
 then-some none k b l e = let z : _≡_ {A = ℕ} 0 1 = cc in absurd (omega arith)
 then-some (some a l₁) k b l e = (a, l₁, refl, e)
 
-word-is : (w l : List ℕ) (u : Unit {0}) (r : List ℕ) → word w l ≡ some u r → l ≡ w ++ r
+pub word-is : (w l : List ℕ) (u : Unit {0}) (r : List ℕ) → word w l ≡ some u r → l ≡ w ++ r
 unfolding word
 word-is [] l u r e = cc
 word-is (x ∷ w) [] u r e = let z : _≡_ {A = ℕ} 0 1 = cc in absurd (omega arith)
@@ -85,7 +85,7 @@ pub bytes-all : (w : List ℕ) → ((j : ℕ) → j < length w → LabelByte (at
 bytes-all [] h = tt
 bytes-all (x ∷ w) h = (byte-label x (h 0 (omega arith)), bytes-all w (λ j l. h (suc j) (omega arith)))
 
-label-field : (l w r : List ℕ) → label l ≡ some w r → Label w × (l ≡ w ++ r)
+pub label-field : (l w r : List ℕ) → label l ≡ some w r → Label w × (l ≡ w ++ r)
 unfolding label
 label-field l w r = go (ltb 0 (length (run isLabelByte l)) && leb (length (run isLabelByte l)) 8) refl
   where
@@ -194,7 +194,7 @@ spelled-is (x ∷ w) a one few led = (omega (arith, below), spelled)
 
 -- "A number has 1 to 5 digits and no leading zero, save 0 itself": the writer's spelling of a number up to
 -- 99,999
-number-field : (l : List ℕ) (v : ℕ) (r : List ℕ) → number l ≡ some v r → (v ≤ 99999) × (l ≡ numeral v ++ r)
+pub number-field : (l : List ℕ) (v : ℕ) (r : List ℕ) → number l ≡ some v r → (v ≤ 99999) × (l ≡ numeral v ++ r)
 unfolding number isPlain
 number-field l v r = go (ltb 0 (length W)) refl (leb (length W) 5) refl (leb (length W) 1) refl (eqb (at W 0) 48) refl
   where
@@ -241,7 +241,7 @@ pub record GuardForm (l a b : List ℕ) (g : ℕ) (r : List ℕ) : Type 0 where
   pub number : g ≤ 99999
   pub text : l ≡ pairLine a b g ++ r
 
-last-is : (l : List ℕ) (v : ℕ) (r : List ℕ) → lastField l ≡ some v r → (v ≤ 99999) × (l ≡ space ++ (numeral v ++ lineFeed) ++ r)
+pub last-is : (l : List ℕ) (v : ℕ) (r : List ℕ) → lastField l ≡ some v r → (v ≤ 99999) × (l ≡ space ++ (numeral v ++ lineFeed) ++ r)
 unfolding lastField
 last-is l v r e =
     let a = then-some (word space l) _ v r e in

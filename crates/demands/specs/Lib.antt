@@ -50,3 +50,8 @@ pub mod SheetForm
 pub mod Grid
 pub mod Orderable
 pub mod LongestOrder
+pub mod OrderForms
+pub mod OnOrderLines
+pub mod OrderTrip
+pub mod OrderBack
+pub mod OnOrdering

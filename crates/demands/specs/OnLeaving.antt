@@ -40,7 +40,7 @@ use Rattle.demands.specs.OnPlanning.{sided, greedyPackable}
 use Rattle.demands.specs.Writable.{writing-writable, clear-write}
 
 -- A call that refuses where its tests find a fault and else is done: an answer that is not 0 is the refusal
-unless-is : {A : Type 0} (number : A → ℕ) (f : Fault) (refused : Fault → A) (result : A) → number result ≡ 0
+pub unless-is : {A : Type 0} (number : A → ℕ) (f : Fault) (refused : Fault → A) (result : A) → number result ≡ 0
     → number (unless f refused result) ≢ 0 → unless f refused result ≡ refused f
 unfolding unless
 unless-is number f refused result d = go (eqb (f .number) 0)
@@ -163,7 +163,7 @@ rounds-kept highestOf n pos t (suc k) r h = go (decLt (highestOf (tried n q)) (q
     go (no l) h = rw (round-left highestOf n pos q (omega arith) .0) h
 
 -- some cells written at the front of a table
-front-kept : (c t : List ℕ) → length c ≤ length t → KeptFrom (length c) t (c ++ drop (length c) t)
+pub front-kept : (c t : List ℕ) → length c ≤ length t → KeptFrom (length c) t (c ++ drop (length c) t)
 front-kept c t l = record {
   size = omega (arith, length-append c (drop (length c) t), length-drop (length c) t);
   cells = λ k g. let e : length c + (k - length c) ≡ k = omega arith in

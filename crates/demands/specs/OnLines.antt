@@ -32,10 +32,10 @@ pub record Known (labels : List ℕ) (n : ℕ) (w : List ℕ) (i : ℕ) : Type 0
   pub has : HasLabel labels i w
   pub earliest : Unknown labels i w
 
-not-row : (labels w : List ℕ) (i : ℕ) → isRow labels w i ≡ false → HasLabel labels i w → ⊥
+pub not-row : (labels w : List ℕ) (i : ℕ) → isRow labels w i ≡ false → HasLabel labels i w → ⊥
 not-row labels w i e h = true≢false (sym (row-same labels w i h) ∙ e)
 
-row-not : (labels w : List ℕ) (i : ℕ) → (HasLabel labels i w → ⊥) → isRow labels w i ≡ false
+pub row-not : (labels w : List ℕ) (i : ℕ) → (HasLabel labels i w → ⊥) → isRow labels w i ≡ false
 row-not labels w i h = go (isRow labels w i) refl
   where
     go : (b : Bool) → isRow labels w i ≡ b → isRow labels w i ≡ false

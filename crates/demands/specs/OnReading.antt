@@ -94,17 +94,17 @@ pub data SheetSays (l : List ℕ) : Type 0 where
   rightly : (t : ℕ × List ℕ × Lent × List ℕ) → SheetRight l t → SheetSays l
 
 -- a count stands in front of a text, or none does
-count-says : (word l : List ℕ) → ((m : ℕ) × (r : List ℕ) × (countLine word l ≡ some m r)) ⊎ (countLine word l ≡ none)
+pub count-says : (word l : List ℕ) → ((m : ℕ) × (r : List ℕ) × (countLine word l ≡ some m r)) ⊎ (countLine word l ≡ none)
 count-says word l = go (countLine word l) refl
   where
     go : (p : Parsed ℕ) → countLine word l ≡ p → ((m : ℕ) × (r : List ℕ) × (countLine word l ≡ some m r)) ⊎ (countLine word l ≡ none)
     go none e = inr e
     go (some m r) e = inl (m, r, e)
 
-no-count : (word l : List ℕ) → countLine word l ≡ none → NoCount word l
+pub no-count : (word l : List ℕ) → countLine word l ≡ none → NoCount word l
 no-count word l e m r f = let x = form-count word l m r f in let z : _≡_ {A = ℕ} 0 1 = cc in omega arith
 
-none-count : (word l : List ℕ) → NoCount word l → countLine word l ≡ none
+pub none-count : (word l : List ℕ) → NoCount word l → countLine word l ≡ none
 none-count word l h = go (count-says word l)
   where
     go : ((m : ℕ) × (r : List ℕ) × (countLine word l ≡ some m r)) ⊎ (countLine word l ≡ none) → countLine word l ≡ none

@@ -19,7 +19,7 @@ use Rattle.demands.specs.Writable.{Writable}
 use Rattle.demands.specs.Kept.{keptCells, keptLabels, cells-more, labels-more, row-kept, find-kept}
 
 -- the lines
-last-trip : (v : ℕ) (l : List ℕ) → v < 100000 → lastField (32 ∷ (numeral v ++ 10 ∷ l)) ≡ some v l
+pub last-trip : (v : ℕ) (l : List ℕ) → v < 100000 → lastField (32 ∷ (numeral v ++ 10 ∷ l)) ≡ some v l
 unfolding lastField then isDigit
 last-trip v l b = rw (word-trip space (numeral v ++ 10 ∷ l), number-trip v 10 l b refl, word-trip lineFeed l)
 
