@@ -77,11 +77,11 @@ pub record Anchor (a : ℤ) : Type 0 where
   pub few : steps ≤ 2048
   pub is : a +ℤ pos 1024 ≡ pos steps
 
-anchor-out : ℤ → Bool
-anchor-out a = ltZ a (negsuc 1023) || ltZ (pos 1024) a
+-- the test says so of all others
+abbrev pub anchorOut : ℤ → Bool
+anchorOut a = ltZ a (negsuc 1023) || ltZ (pos 1024) a
 
-anchor-in : (a : ℤ) → anchor-out a ≡ false → Anchor a
-unfolding anchor-out
+anchor-in : (a : ℤ) → anchorOut a ≡ false → Anchor a
 anchor-in (pos x) e = let h = ltb-false 1024 x e in record { steps = x + 1024; few = omega arith; is = refl }
 anchor-in (negsuc x) e = go (ltb 1023 x) refl e
   where
@@ -107,12 +107,12 @@ anchor-high : (a : ℤ) → Anchor a → ltZ (pos 1024) a ≡ false
 anchor-high (pos x) h = let e : x + 1024 ≡ h .steps = cc (h .is) in le-ltb 1024 x (omega (arith, h .few))
 anchor-high (negsuc x) h = refl
 
+pub anchor-tells : (a : ℤ) → (anchorOut a ≡ false) ↔ Anchor a
+anchor-tells a = (anchor-in a, λ h. rw (anchor-low a h, anchor-high a h))
+
 pub anchor-clear : (a : ℤ) → (anchorFault a .number ≡ 0) ↔ Anchor a
-unfolding anchorFault anchor-out
-anchor-clear a = (
-  λ z. anchor-in a (refuse-clear (ltZ a (negsuc 1023) || ltZ (pos 1024) a) 17 0 (omega arith) z),
-  λ h. clear-of (refuse-not (ltZ a (negsuc 1023) || ltZ (pos 1024) a) 17 0 (rw (anchor-low a h, anchor-high a h))),
-)
+unfolding anchorFault
+anchor-clear a = (λ z. anchor-in a (refuse-clear (anchorOut a) 17 0 (omega arith) z), λ h. clear-of (refuse-not (anchorOut a) 17 0 (anchor-tells a .1 h)))
 
 -- The n of a block: -1,023 to 33,854
 abbrev pub OnGrid : ℤ → Type 0

@@ -55,3 +55,4 @@ pub mod OnOrderLines
 pub mod OrderTrip
 pub mod OrderBack
 pub mod OnOrdering
+pub mod OrderTests

@@ -34,11 +34,11 @@ use Rattle.demands.specs.Tests.{told, Tells, refuse-gives, scan-gives, s
 use Rattle.demands.specs.Words.{tells-lt, tells-le, tells-eq, tells-not, tells-outside, tells-guard, tells-mirror, tells-entry, tells-clash, tells-short, tells-member, tells-start, tells-label, tells-twice}
 
 -- a test, and those after it
-then : (t : Test) (ts : List Test) (f g : Fault) → Gives (t ∷ []) f → (f .number ≡ 0 → Gives ts g) → Gives (t ∷ ts) (f orElse g)
+pub then : (t : Test) (ts : List Test) (f g : Fault) → Gives (t ∷ []) f → (f .number ≡ 0 → Gives ts g) → Gives (t ∷ ts) (f orElse g)
 then t ts f g = gives-append (t ∷ []) ts f g
 
 -- 2
-size-gives : (table : List ℕ) (size : ℕ) → Gives (sizeTest table size ∷ []) (sizeFault table size)
+pub size-gives : (table : List ℕ) (size : ℕ) → Gives (sizeTest table size ∷ []) (sizeFault table size)
 unfolding sizeFault
 size-gives table size = refuse-gives 2 _ (not (eqb (length table) size)) (omega arith) (tells-not (tells-eq (length table) size))
 
@@ -59,7 +59,7 @@ network-gives n lent =
     (λ i j l g b. (refl, λ s e. e)))))
 
 -- 2, 1, 3, 4, 5, with 2 of the tables beside the network
-lent-gives : (n : ℕ) (lent : Lent) (ts : List Test) (sizes : Fault) → Gives ts sizes → Gives (lentTests n lent ts) (lentFault n lent sizes)
+pub lent-gives : (n : ℕ) (lent : Lent) (ts : List Test) (sizes : Fault) → Gives ts sizes → Gives (lentTests n lent ts) (lentFault n lent sizes)
 unfolding lentTests lentFault networkSizes
 lent-gives n lent ts sizes h =
     gives-append (sizeTest (lent .widths) 128 ∷ sizeTest (lent .guards) 16384 ∷ []) (ts ++ networkTests n lent) _ _
@@ -87,7 +87,7 @@ lent-silent n lent sizes more a b = silent-append (lentTests n lent sizes) more 
 
 -- judging and pressing
 module _ (n : ℕ) (lent : Lent) (starts : List ℕ) where
-  start-gives : Gives (startTest n starts ∷ []) (startFault n starts)
+  pub start-gives : Gives (startTest n starts ∷ []) (startFault n starts)
   unfolding startFault
   start-gives = scan-gives 7 n _ (badStart starts) (omega arith) (λ k l. tells-outside 1 16384 (at starts k))
 
@@ -226,7 +226,7 @@ flooring-gives n lent list =
 
 -- the writer
 module _ (n : ℕ) (labels : List ℕ) (lent : Lent) (starts text : List ℕ) where
-  label-sizes-give : Gives (sizeTest labels 1024 ∷ sizeTest starts 128 ∷ []) (labelSizes labels starts)
+  pub label-sizes-give : Gives (sizeTest labels 1024 ∷ sizeTest starts 128 ∷ []) (labelSizes labels starts)
   unfolding labelSizes
   label-sizes-give = two-sizes labels starts 1024 128
 
