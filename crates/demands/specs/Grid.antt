@@ -6,14 +6,14 @@ use mathlib.Core.Logic.{_≢_, _↔_}
 use mathlib.Core.Bool.{Bool, true, false, cond, _&&_, _||_, true≢false}
 use native.Mathlib.Omega.{arith}
 use native.Mathlib.Decide.{ℕ-discrete}
-use native.Mathlib.Nat.{mul-assoc, lt-of-lt-of-le}
+use native.Mathlib.Nat.{mul-assoc, lt-of-lt-of-le, eq-of-mul-eq-mul-right}
 use lib.Dec.{T, ltb, eqb, lit<, lit≤}
 use lib.Pow.{shl-lt}
 use lib.IntN.{ℤ, pos, negsuc, natAbs, negℤ, _+ℤ_, _*ℤ_, +ℤ-assoc, +ℤ-comm, +ℤ-negℤ-cancel, -ℤ-+ℤ-cancel, pos-ne-negsuc}
 use lib.Signed.{ltZ}
 use lib.Ieee.{Float, round, binary64}
 use lib.Ieee.Exact.{HasValue, round-exact}
-use lib.Ieee.Positive.{positive, positive-of-value}
+use lib.Ieee.Positive.{den, den-pos, value→cross, positive, positive-of-value}
 use borrow.Author.Tests.{ltb-true, ltb-false, le-ltb, lt-ltb, eqb-true}
 use Rattle.rules.specs.Grid.{gridNumber, startAbove, gridStart, quarters, centreOf}
 use Rattle.rules.specs.Numbers.{refuseIf, outside, anchorFault, centreFault}
@@ -207,6 +207,14 @@ centre-exact a b w z =
       some = q .2;
       value = subst (λ (x : Float). HasValue x false (q .0) 4) (sym (centre-of-number a b w z ∙ rounded n (q .0) (q .1))) (quarters-exact (q .0) (q .3));
     }
+
+-- and it is no other number of quarters
+pub centre-only : (a : ℤ) (b w : ℕ) → centreNumber a b w ≡ 0 → (q : ℕ) → HasValue (centring a b w) false q 4 → pos q ≡ pos (4 * 193100) +ℤ pos 25 *ℤ gridNumber a b w
+centre-only a b w z q v =
+    let c = centre-exact a b w z in
+    let x = centring a b w in
+    let e = sym (value→cross x q 4 v) ∙ value→cross x (c .quarter) 4 (c .value) in
+    ap pos (eq-of-mul-eq-mul-right (den x) (den-pos x) q (c .quarter) e) ∙ c .is
 
 -- so 0.0 is given by no accepted call
 pub centre-some : (a : ℤ) (b w : ℕ) → centreNumber a b w ≡ 0 → centring a b w ≢ noCentre

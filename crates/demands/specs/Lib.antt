@@ -56,3 +56,4 @@ pub mod OrderTrip
 pub mod OrderBack
 pub mod OnOrdering
 pub mod OrderTests
+pub mod OrderUnfit

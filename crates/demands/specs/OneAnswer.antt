@@ -6,6 +6,8 @@ use Prim.Native.Nat.{ℕ}
 use mathlib.Core.Path.{_≡_, sym, ap, _∙_}
 use mathlib.Core.List.{List}
 use denote.Ref.{RefT, now, ptr}
+use lib.IntN.{ℤ}
+use lib.Ieee.{Float}
 use Rattle.rules.specs.Tables.{Lent}
 use Rattle.rules.specs.declared.Fault.{Fault}
 use Rattle.rules.specs.declared.Packed.{Packed}
@@ -16,7 +18,8 @@ use Rattle.rules.specs.declared.Floored.{Floored}
 use Rattle.rules.specs.declared.SheetRead.{SheetRead}
 use Rattle.rules.specs.declared.SheetWritten.{SheetWritten}
 use Rattle.rules.specs.declared.Why.{Why}
-use Rattle.rules.specs.Calls.{Left, left, judging, packing, pressing, explaining, siding, improving, planning, flooring, reading, writing}
+use Rattle.rules.specs.declared.OrderRead.{OrderRead}
+use Rattle.rules.specs.Calls.{Left, left, judging, packing, pressing, explaining, siding, improving, planning, flooring, reading, writing, centring, centreNumber, orderWriting, orderReading}
 use Rattle.rules.specs.Better.{Bettered}
 
 -- the law
@@ -56,12 +59,26 @@ pub write-one : (n : ℕ) (labels : List ℕ) (lent : Lent) (starts text : List 
     → left r t ≡ writing n labels lent starts text → left s u ≡ writing n labels lent starts text → (r ≡ s) × (t ≡ u)
 write-one n labels lent starts text = one-answer
 
+pub order-write-one : (anchor : ℤ) (n : ℕ) (labels : List ℕ) (lent : Lent) (starts text : List ℕ) {r s : SheetWritten} {t u : List ℕ}
+    → left r t ≡ orderWriting anchor n labels lent starts text → left s u ≡ orderWriting anchor n labels lent starts text → (r ≡ s) × (t ≡ u)
+order-write-one anchor n labels lent starts text = one-answer
+
+pub order-read-one : (anchor : ℤ) (text : List ℕ) (n : ℕ) (labels : List ℕ) (lent : Lent) (starts : List ℕ) {r s : OrderRead} {t u : List ℕ}
+    → left r t ≡ orderReading anchor text n labels lent starts → left s u ≡ orderReading anchor text n labels lent starts → (r ≡ s) × (t ≡ u)
+order-read-one anchor text n labels lent starts = one-answer
+
 -- the calls that write none
 pub judge-one : (n : ℕ) (lent : Lent) (starts : List ℕ) {r s : Fault} → r ≡ judging n lent starts → s ≡ judging n lent starts → r ≡ s
 judge-one n lent starts x y = x ∙ sym y
 
 pub floor-one : (n : ℕ) (lent : Lent) (list : List ℕ) {r s : Floored} → r ≡ flooring n lent list → s ≡ flooring n lent list → r ≡ s
 floor-one n lent list x y = x ∙ sym y
+
+pub centre-one : (anchor : ℤ) (start width : ℕ) {r s : Float} → r ≡ centring anchor start width → s ≡ centring anchor start width → r ≡ s
+centre-one anchor start width x y = x ∙ sym y
+
+pub centre-number-one : (anchor : ℤ) (start width : ℕ) {r s : ℕ} → r ≡ centreNumber anchor start width → s ≡ centreNumber anchor start width → r ≡ s
+centre-number-one anchor start width x y = x ∙ sym y
 
 -- the part handed back: one place, and one content
 pub better-one : (n : ℕ) (lent : Lent) (first second r s : RefT (List ℕ))

@@ -40,7 +40,7 @@ use Rattle.demands.specs.Met.{Between}
 use Rattle.demands.specs.OnFlooring.{stacked, flooring-met}
 
 -- entry k of a list of numbers that were computed
-entry : {xs ys : List ℕ} (k : ℕ) → xs ≡ ys → at xs k ≡ at ys k
+pub entry : {xs ys : List ℕ} (k : ℕ) → xs ≡ ys → at xs k ≡ at ys k
 entry k e = ap (λ (l : List ℕ). at l k) e
 
 -- T is within the limits
@@ -89,7 +89,7 @@ writingOf (n, labels, lent, starts, text) = writing n labels lent starts text
 abbrev pub Refuses : {Given Leaves : Type 0} → (Leaves → ℕ) → (Given → Leaves) → Type 0
 Refuses {Given} number program = (g : Given) → number (program g) ≢ 0
 
-refusing-unfit : {Given Leaves : Type 0} (number : Leaves → ℕ) (definition program : Given → Leaves) (given : Given) → number (definition given) ≡ 0
+pub refusing-unfit : {Given Leaves : Type 0} (number : Leaves → ℕ) (definition program : Given → Leaves) (given : Given) → number (definition given) ≡ 0
     → Meets program definition → Refuses number program → ⊥
 refusing-unfit number definition program given done meets refuses = refuses given (ap number (meets given) ∙ done)
 
