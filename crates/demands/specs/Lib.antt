@@ -57,3 +57,4 @@ pub mod OrderBack
 pub mod OnOrdering
 pub mod OrderTests
 pub mod OrderUnfit
+pub mod OrderBytes

@@ -19,28 +19,28 @@ use Rattle.rules.specs.Calls.{readOutcome, reading}
 use Rattle.sheet_laws.specs.Texts.{digit-bounds, run-more, run-head}
 
 -- l′ is the first bytes of l, at least b of them where l has so many
-record Front (b : ℕ) (l l′ : List ℕ) : Type 0 where
-  kept : ℕ
-  enough : b ≤ kept
-  same : l′ ≡ take kept l
+pub record Front (b : ℕ) (l l′ : List ℕ) : Type 0 where
+  pub kept : ℕ
+  pub enough : b ≤ kept
+  pub same : l′ ≡ take kept l
 
-less : (a b : ℕ) (l l′ : List ℕ) → a ≤ b → Front b l l′ → Front a l l′
+pub less : (a b : ℕ) (l l′ : List ℕ) → a ≤ b → Front b l l′ → Front a l l′
 less a b l l′ h f = record { kept = f .kept; enough = omega (arith, f .enough); same = f .same }
 
 -- two texts read alike: neither begins with the field, or both with the same one, and R holds of it and the
 -- texts after it
-data Alike {A : Type 0} (R : A → List ℕ → List ℕ → Type 0) : Parsed A → Parsed A → Type 0 where
+pub data Alike {A : Type 0} (R : A → List ℕ → List ℕ → Type 0) : Parsed A → Parsed A → Type 0 where
   neither : Alike R none none
   both : (a : A) (r r′ : List ℕ) → R a r r′ → Alike R (some a r) (some a r′)
 
-then-alike : {A B : Type 0} (R : A → List ℕ → List ℕ → Type 0) (S : B → List ℕ → List ℕ → Type 0) (p p′ : Parsed A) (k : A → List ℕ → Parsed B)
+pub then-alike : {A B : Type 0} (R : A → List ℕ → List ℕ → Type 0) (S : B → List ℕ → List ℕ → Type 0) (p p′ : Parsed A) (k : A → List ℕ → Parsed B)
     → Alike R p p′ → ((a : A) (r r′ : List ℕ) → R a r r′ → Alike S (k a r) (k a r′)) → Alike S (then p k) (then p′ k)
 unfolding then
 then-alike R S p p′ k neither h = neither
 then-alike R S p p′ k (both a r r′ f) h = h a r r′ f
 
 -- what holds of both branches
-either : {A : Type 0} (P : A → A → Type 0) (t : Bool) (x x′ y y′ : A) → (t ≡ true → P x x′) → P y y′ → P (cond t x y) (cond t x′ y′)
+pub either : {A : Type 0} (P : A → A → Type 0) (t : Bool) (x x′ y y′ : A) → (t ≡ true → P x x′) → P y y′ → P (cond t x y) (cond t x′ y′)
 either P true x x′ y y′ h k = h refl
 either P false x x′ y y′ h k = k
 
@@ -69,7 +69,7 @@ word-front (x ∷ w) (y ∷ l) e zero h = absurd (omega arith)
 word-front (x ∷ w) (y ∷ l) e (suc q) h =
     either (Alike (λ _ r r′. Front e r r′)) (eqb x y) (word w l) (word w (take q l)) none none (λ _. word-front w l e q (omega arith)) neither
 
-word-alike : (w l l′ : List ℕ) (e : ℕ) → Front (length w + e) l l′ → Alike (λ _ r r′. Front e r r′) (word w l) (word w l′)
+pub word-alike : (w l l′ : List ℕ) (e : ℕ) → Front (length w + e) l l′ → Alike (λ _ r r′. Front e r r′) (word w l) (word w l′)
 word-alike w l l′ e f = rw (f .same) (word-front w l e (f .kept) (f .enough))
 
 and-right : (a b : Bool) → a && b ≡ true → b ≡ true
@@ -103,7 +103,7 @@ label-front l e q o h = rw (run-front isLabelByte q l) (go (decLt q (length W)))
         both W (drop (length W) l) (drop (length W) (take q l)) (record { kept = q - length W; enough = omega arith; same = drop-take (length W) q l }))
         neither)
 
-label-alike : (l l′ : List ℕ) (e : ℕ) → 1 ≤ e → Front (8 + e) l l′ → Alike (λ _ r r′. Front e r r′) (label l) (label l′)
+pub label-alike : (l l′ : List ℕ) (e : ℕ) → 1 ≤ e → Front (8 + e) l l′ → Alike (λ _ r r′. Front e r r′) (label l) (label l′)
 label-alike l l′ e o f = rw (f .same) (label-front l e (f .kept) o (f .enough))
 
 -- digits that do not begin with 0: a number below 10 ^ k has at most k of them
@@ -148,11 +148,11 @@ plain-tight (x ∷ w) k low led o b = go (decLt k (suc (length w)))
         omega arith)
 
 -- after a number v, read where b bytes are known: how many digits it has, and the bytes still known
-record Behind (b v : ℕ) (r r′ : List ℕ) : Type 0 where
-  used : ℕ
-  few : used ≤ 5
-  tight : (k : ℕ) → 1 ≤ k → v < 10 ^ k → used ≤ k
-  front : Front (b - used) r r′
+pub record Behind (b v : ℕ) (r r′ : List ℕ) : Type 0 where
+  pub used : ℕ
+  pub few : used ≤ 5
+  pub tight : (k : ℕ) → 1 ≤ k → v < 10 ^ k → used ≤ k
+  pub front : Front (b - used) r r′
 
 -- a number: at most 5 digits, and the sixth byte shows that it ends
 number-front : (l : List ℕ) (b q : ℕ) → 6 ≤ b → b ≤ q → Alike (Behind b) (number l) (number (take q l))
@@ -180,14 +180,14 @@ number-front l b q o h = rw (run-front isDigit q l) (go (decLt q (length W)))
         }))
         neither)
 
-number-alike : (l l′ : List ℕ) (b : ℕ) → 6 ≤ b → Front b l l′ → Alike (Behind b) (number l) (number l′)
+pub number-alike : (l l′ : List ℕ) (b : ℕ) → 6 ≤ b → Front b l l′ → Alike (Behind b) (number l) (number l′)
 number-alike l l′ b o f = rw (f .same) (number-front l b (f .kept) o (f .enough))
 
 -- a line's last number and its line feed: where the number is below 10 ^ k, at most k + 1 bytes
-abbrev Rest : ℕ → ℕ → List ℕ → List ℕ → Type 0
+abbrev pub Rest : ℕ → ℕ → List ℕ → List ℕ → Type 0
 Rest b v r r′ = (k : ℕ) → 1 ≤ k → v < 10 ^ k → Front (b - (k + 1)) r r′
 
-last-alike : (b : ℕ) (l l′ : List ℕ) → 6 ≤ b → Front (1 + b) l l′ → Alike (Rest b) (lastField l) (lastField l′)
+pub last-alike : (b : ℕ) (l l′ : List ℕ) → 6 ≤ b → Front (1 + b) l l′ → Alike (Rest b) (lastField l) (lastField l′)
 unfolding lastField
 last-alike b l l′ o f =
     then-alike (λ _ r r′. Front b r r′) (Rest b) (word space l) (word space l′) _ (word-alike space l l′ b f)
@@ -219,11 +219,11 @@ guard-alike l l′ b o f =
     (λ _ s s′ h. then-alike (λ t. Rest b (t .1)) (λ t. Rest b (t .1 .1)) (pathLine s) (pathLine s′) _ (path-alike s s′ b o h) (λ t u u′ i. both (w, t) u u′ i)))
 
 -- lines that come to the same, with e bytes known after them; and sections
-data AlikeLine {T : Type 0} (e : ℕ) : Line T → Line T → Type 0 where
+pub data AlikeLine {T : Type 0} (e : ℕ) : Line T → Line T → Type 0 where
   wrongs : (x : ℕ) → AlikeLine e (wrong x) (wrong x)
   rights : (t : T) (r r′ : List ℕ) → Front e r r′ → AlikeLine e (right t r) (right t r′)
 
-data AlikeSection {T : Type 0} (e : ℕ) : Section T → Section T → Type 0 where
+pub data AlikeSection {T : Type 0} (e : ℕ) : Section T → Section T → Type 0 where
   halts : (x line : ℕ) → AlikeSection e (halt x line) (halt x line)
   ends : (t : T) (r r′ : List ℕ) → Front e r r′ → AlikeSection e (done t r) (done t r′)
 
@@ -300,22 +300,22 @@ start-step : (labels : List ℕ) (k : ℕ) (t l l′ : List ℕ) (e : ℕ) → F
 unfolding startStep
 start-step labels k t l l′ e f = start-means labels k t e (pathLine l) (pathLine l′) (path-alike l l′ (6 + e) (omega arith) (less (8 + (1 + (6 + e))) (15 + e) l l′ (omega arith) f))
 
--- m lines of at most c bytes each
+-- m lines of at most c bytes each, of indices below n; each is read alike where e bytes more than those are known
 follow-alike : {T : Type 0} (a e : ℕ) (s s′ : Line T) (line : ℕ) (go : T → List ℕ → Section T) → AlikeLine a s s′
     → ((t : T) (r r′ : List ℕ) → Front a r r′ → AlikeSection e (go t r) (go t r′)) → AlikeSection e (follow s line go) (follow s′ line go)
 unfolding follow
 follow-alike a e s s′ line go (wrongs x) h = halts x line
 follow-alike a e s s′ line go (rights t r r′ f) h = h t r r′ f
 
-lines-alike : {T : Type 0} (step : ℕ → T → List ℕ → Line T) (top c e : ℕ)
-    → ((k : ℕ) (t : T) (l l′ : List ℕ) (d : ℕ) → e ≤ d → Front (c + d) l l′ → AlikeLine d (step k t l) (step k t l′)) → (m k : ℕ) (t : T) (l l′ : List ℕ)
+lines-alike : {T : Type 0} (step : ℕ → T → List ℕ → Line T) (top c e n : ℕ)
+    → ((k : ℕ) → k < n → (t : T) (l l′ : List ℕ) (d : ℕ) → e ≤ d → Front (c + d) l l′ → AlikeLine d (step k t l) (step k t l′)) → (m k : ℕ) → k + m ≤ n → (t : T) (l l′ : List ℕ)
     → Front (m * c + e) l l′ → AlikeSection e (lines step top m k t l) (lines step top m k t l′)
 unfolding lines
-lines-alike step top c e h zero k t l l′ f = ends t l l′ (less e (0 * c + e) l l′ (omega arith) f)
-lines-alike step top c e h (suc m) k t l l′ f =
+lines-alike step top c e n h zero k i t l l′ f = ends t l l′ (less e (0 * c + e) l l′ (omega arith) f)
+lines-alike step top c e n h (suc m) k i t l l′ f =
     follow-alike (m * c + e) e (step k t l) (step k t l′) (top + k) (λ t′ r. lines step top m (suc k) t′ r)
-    (h k t l l′ (m * c + e) (omega arith) (less (c + (m * c + e)) (suc m * c + e) l l′ (omega arith) f))
-    (λ t′ r r′ g. lines-alike step top c e h m (suc k) t′ r r′ g)
+    (h k (omega arith) t l l′ (m * c + e) (omega arith) (less (c + (m * c + e)) (suc m * c + e) l l′ (omega arith) f))
+    (λ t′ r r′ g. lines-alike step top c e n h m (suc k) (omega arith) t′ r r′ g)
 
 -- the sections
 counted-alike : {T : Type 0} (R : ℕ → List ℕ → List ℕ → Type 0) (e : ℕ) (p p′ : Parsed ℕ) (isRight : ℕ → Bool) (line : ℕ) (go : ℕ → List ℕ → Section T)
@@ -345,20 +345,21 @@ ended-alike line t l l′ f = rw (f .same) (ended-front line t l (f .kept) (f .e
 nothing : Front 0 [] []
 nothing = record { kept = 0; enough = omega arith; same = refl }
 
--- the last section: a word of at most w bytes, and n lines of at most c bytes each
-last-alike-part : {T : Type 0} (word : List ℕ) (step : ℕ → T → List ℕ → Line T) (c : ℕ)
-    → ((k : ℕ) (t : T) (l l′ : List ℕ) (d : ℕ) → 1 ≤ d → Front (c + d) l l′ → AlikeLine d (step k t l) (step k t l′)) → (n line : ℕ) (t : T) (l l′ : List ℕ)
-    → 1 ≤ n → 1 ≤ c → n ≤ 128 → Front (length word + (n * c + 6)) l l′ → AlikeSection 0 (lastPart word step n line t l) (lastPart word step n line t l′)
+-- the last section: its word, and n lines of at most c bytes each, which are read alike where e bytes more are known
+pub last-alike-part : {T : Type 0} (word : List ℕ) (step : ℕ → T → List ℕ → Line T) (c e n : ℕ)
+    → ((k : ℕ) → k < n → (t : T) (l l′ : List ℕ) (d : ℕ) → e ≤ d → Front (c + d) l l′ → AlikeLine d (step k t l) (step k t l′)) → (line : ℕ) (t : T) (l l′ : List ℕ)
+    → 1 ≤ n → 1 ≤ c → 1 ≤ e → n ≤ 128 → Front (length word + (n * c + (e + 5))) l l′ → AlikeSection 0 (lastPart word step n line t l) (lastPart word step n line t l′)
 unfolding lastPart
-last-alike-part word step c h n line t l l′ low wide high f =
+last-alike-part word step c e n h line t l l′ low wide more high f =
     let some : 1 ≤ n * c = product n c low wide in
-    counted-alike (Rest (n * c + 5)) 0 (countLine word l) (countLine word l′) (λ m. eqb m n) line _
-    (count-alike word l l′ (n * c + 5) (omega arith) (less (length word + (1 + (n * c + 5))) (length word + (n * c + 6)) l l′ (omega arith) f))
-    (λ m r r′ e g.
-    let b = eqb-true m n e in
-    after-alike 1 0 (lines step (line + 1) n 0 t r) (lines step (line + 1) n 0 t r′) _
-    (lines-alike step (line + 1) c 1 h n 0 t r r′ (less (n * c + 1) (n * c + 5 - (3 + 1)) r r′ (omega arith) (g 3 (omega arith) (omega arith))))
-    (λ u s s′ i. ended-alike (line + 1 + n) u s s′ i))
+    let b = n * c + (e + 4) in
+    counted-alike (Rest b) 0 (countLine word l) (countLine word l′) (λ m. eqb m n) line _
+    (count-alike word l l′ b (omega arith) (less (length word + (1 + b)) (length word + (n * c + (e + 5))) l l′ (omega arith) f))
+    (λ m r r′ q g.
+    let same = eqb-true m n q in
+    after-alike e 0 (lines step (line + 1) n 0 t r) (lines step (line + 1) n 0 t r′) _
+    (lines-alike step (line + 1) c e n h n 0 (omega arith) t r r′ (less (n * c + e) (b - (3 + 1)) r r′ (omega arith) (g 3 (omega arith) (omega arith))))
+    (λ u s s′ i. ended-alike (line + 1 + n) u s s′ (less 1 e s s′ more i)))
   where
     product : (n c : ℕ) → 1 ≤ n → 1 ≤ c → 1 ≤ n * c
     product zero c p q = absurd (omega arith)
@@ -370,7 +371,7 @@ unfolding startsPart
 starts-front n line labels starts l zero low high h = absurd (omega arith)
 starts-front n line labels starts [] (suc q) low high h = ends starts [] [] nothing
 starts-front n line labels starts (x ∷ l) (suc q) low high h =
-    last-alike-part startsWord (startStep labels) 15 (λ k u s s′ d _ g. start-step labels k u s s′ d g) n line starts (x ∷ l) (x ∷ take q l) low (omega arith) high
+    last-alike-part startsWord (startStep labels) 15 1 n (λ k _ u s s′ d _ g. start-step labels k u s s′ d g) line starts (x ∷ l) (x ∷ take q l) low (omega arith) (omega arith) high
     (record { kept = suc q; enough = omega arith; same = refl })
 
 starts-alike : (n line : ℕ) (labels starts l l′ : List ℕ) → 1 ≤ n → n ≤ 128 → Front (n * 15 + 12) l l′
@@ -386,7 +387,7 @@ guards-alike n labels guards starts l l′ low high f =
     (λ m r r′ t g.
     let b = leb-true m 2000 t in
     after-alike (n * 15 + 12) 0 (lines (guardStep n labels) (n + 3) m 0 guards r) (lines (guardStep n labels) (n + 3) m 0 guards r′) _
-    (lines-alike (guardStep n labels) (n + 3) 21 (n * 15 + 12) (λ k u s s′ d o h. guard-step n labels k u s s′ d (omega arith) h) m 0 guards r r′
+    (lines-alike (guardStep n labels) (n + 3) 21 (n * 15 + 12) m (λ k _ u s s′ d o h. guard-step n labels k u s s′ d (omega arith) h) m 0 (omega arith) guards r r′
     (less (m * 21 + (n * 15 + 12)) (n * 15 + 42017 - (4 + 1)) r r′ (omega arith) (g 4 (omega arith) (omega arith))))
     (λ u s s′ h.
     after-alike 0 0 (startsPart n (n + m + 3) labels starts s) (startsPart n (n + m + 3) labels starts s′) _
@@ -402,7 +403,7 @@ sheet-alike labels lent starts l l′ f =
     let low = leb-true 1 n (and-left (leb 1 n) (leb n 128) t) in
     let high = leb-true n 128 (and-right (leb 1 n) (leb n 128) t) in
     after-alike (n * 15 + 42024) 0 (lines pathStep 2 n 0 (labels, lent .widths) r) (lines pathStep 2 n 0 (labels, lent .widths) r′) _
-    (lines-alike pathStep 2 12 (n * 15 + 42024) (λ k u s s′ d o h. path-step k u s s′ d (omega arith) h) n 0 (labels, lent .widths) r r′
+    (lines-alike pathStep 2 12 (n * 15 + 42024) n (λ k _ u s s′ d o h. path-step k u s s′ d (omega arith) h) n 0 (omega arith) (labels, lent .widths) r r′
     (less (n * 12 + (n * 15 + 42024)) (45484 - (3 + 1)) r r′ (omega arith) (g 3 (omega arith) (omega arith))))
     (λ u s s′ h.
     after-alike 0 0 (guardsPart n (u .0) (lent .guards) starts s) (guardsPart n (u .0) (lent .guards) starts s′) _
