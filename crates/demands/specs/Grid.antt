@@ -107,6 +107,10 @@ anchor-high : (a : ℤ) → Anchor a → ltZ (pos 1024) a ≡ false
 anchor-high (pos x) h = let e : x + 1024 ≡ h .steps = cc (h .is) in le-ltb 1024 x (omega (arith, h .few))
 anchor-high (negsuc x) h = refl
 
+pub anchor-small : (a : ℤ) → Anchor a → natAbs a ≤ 1024
+anchor-small (pos x) h = ltb-false 1024 x (anchor-high (pos x) h)
+anchor-small (negsuc x) h = let l = ltb-false 1023 x (anchor-low (negsuc x) h) in omega arith
+
 pub anchor-tells : (a : ℤ) → (anchorOut a ≡ false) ↔ Anchor a
 anchor-tells a = (anchor-in a, λ h. rw (anchor-low a h, anchor-high a h))
 

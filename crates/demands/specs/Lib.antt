@@ -58,3 +58,4 @@ pub mod OnOrdering
 pub mod OrderTests
 pub mod OrderUnfit
 pub mod OrderBytes
+pub mod OnOrderAsking

@@ -74,11 +74,11 @@ why-asked name input e = rw e
 
 -- what is said by a number
 module _ (labels name text : List ℕ) (x p s : ℕ) where
-  says-none : x ≡ 7 → cond (eqb x 0) text (refusedText labels name x p s) ≡ noPlanText
+  pub says-none : x ≡ 7 → cond (eqb x 0) text (refusedText labels name x p s) ≡ noPlanText
   unfolding refusedText
   says-none e = rw e
 
-  says-clash : x ≡ 8 → cond (eqb x 0) text (refusedText labels name x p s) ≡ clashText labels p s
+  pub says-clash : x ≡ 8 → cond (eqb x 0) text (refusedText labels name x p s) ≡ clashText labels p s
   unfolding refusedText
   says-clash e = rw e
 

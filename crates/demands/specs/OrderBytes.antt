@@ -1,30 +1,29 @@
 -- The answer to an order sheet does not depend on more than its first 2,318 bytes (RULES 27). The longest one has
 -- 2,314; but a last line that is at fault may have four bytes more than one that is right, a sign and five digits
 -- before five digits, and its number tells them apart. Assumes nothing.
-use Prim.Native.Nat.{ℕ, zero, suc, _+_, _-_, _*_, _^_, _≤_, _<_}
-use mathlib.Core.Path.{_≡_, refl, sym, ap, _∙_}
-use mathlib.Core.Bool.{Bool, true, false, cond}
+use Prim.Native.Nat.{ℕ, zero, suc, _+_, _-_, _≤_, _<_}
+use mathlib.Core.Path.{_≡_, refl, sym, _∙_}
+use mathlib.Core.Bool.{cond}
 use mathlib.Core.List.{List, [], _∷_}
 use native.Mathlib.Omega.{arith}
 use native.Mathlib.Decide.{ℕ-discrete}
-use lib.ListN.{length, set, take}
-use lib.Seq.{take-nil}
+use lib.ListN.{set, take}
 use lib.Dec.{ltb, eqb}
 use lib.IntN.{ℤ, pos, negsuc}
 use borrow.Author.Tests.{eqb-true, ltb-true}
 use Rattle.rules.specs.Tables.{at, Lent}
-use Rattle.rules.specs.Text.{Parsed, none, some, then, word, space, orderWord, label, number, belowZero, signed}
-use Rattle.rules.specs.Sheet.{isRow, Line, wrong, right, Section, lastField, lastPart}
+use Rattle.rules.specs.Text.{Parsed, some, then, word, space, orderWord, label, number, belowZero, signed}
+use Rattle.rules.specs.Sheet.{isRow, Line, wrong, right, Section, lastField}
 use Rattle.rules.specs.Grid.{gridStart, orderLine, orderMeans, orderStep, orderFrom}
 use Rattle.rules.specs.Numbers.{orderReadFault}
-use Rattle.rules.specs.Calls.{unless, orderOutcome, orderReading}
+use Rattle.rules.specs.Calls.{orderOutcome, orderReading}
 use Rattle.plan_laws.specs.Answers.{unless-done, unless-refused}
 use Rattle.sheet_laws.specs.FirstBytes.{Front, less, Alike, neither, both, then-alike, either, word-alike, label-alike, Behind, number-alike, Rest, last-alike, AlikeLine, wrongs, rights, AlikeSection, halts, ends, last-alike-part}
 use Rattle.demands.specs.Grid.{Anchor, OnGrid, number-back, number-range}
 use Rattle.demands.specs.Orderable.{OrderTables, tables-clear}
 
--- after a number that may lie below 0, read where b bytes are known: how many bytes it has, no more than five where
--- it is on the grid, and the bytes still known
+-- after a number that may lie below 0, read where b bytes are known: how many bytes it has, no more than five
+-- where it is on the grid, and the bytes still known
 record Past (b : ℕ) (z : ℤ) (r r′ : List ℕ) : Type 0 where
   used : ℕ
   few : used ≤ 6

@@ -12,23 +12,22 @@ use borrow.Author.Tests.{eqb-true, ne-eqb}
 use Rattle.rules.specs.Text.{Parsed, none, some, then, word, space, lineFeed, isDigit, isLabelByte, label, number, numeral, belowZero, signed, signedNumeral}
 use Rattle.rules.specs.Sheet.{lastField}
 use Rattle.rules.specs.Grid.{orderLine}
-use Rattle.sheet_laws.specs.Texts.{All, digit-bounds, Spelled, numeral-spelled, word-trip, label-trip, number-trip}
+use Rattle.sheet_laws.specs.Texts.{All, Stops, digit-bounds, Spelled, numeral-spelled, word-trip, label-trip, number-stops}
 use Rattle.demands.specs.RoundTrip.{last-trip}
 use Rattle.demands.specs.Forms.{then-some, word-is, Label, bytes-all, label-field, number-field, last-is}
 
 -- A number that may lie below 0, as it is written and read back. What comes after it does not begin with a digit
-module _ (x : ℕ) (l : List ℕ) (stop : isDigit x ≡ false) where
-  pub signed-trip : (z : ℤ) → natAbs z < 100000 → signed (signedNumeral z ++ x ∷ l) ≡ some z (x ∷ l)
-  unfolding signedNumeral signed then belowZero
-  signed-trip (pos v) h = go (numeral v) refl (numeral-spelled v h)
-    where
-      go : (w : List ℕ) → numeral v ≡ w → Spelled 5 v w → signed (w ++ x ∷ l) ≡ some (pos v) (x ∷ l)
-      go [] e s = absurd (omega (arith, s .some-digit))
-      go (y ∷ w) e s =
-          let d = digit-bounds y (s .digits .0) in
-          let back : number (y ∷ (w ++ x ∷ l)) ≡ some v (x ∷ l) = ap (λ (u : List ℕ). number (u ++ x ∷ l)) (sym e) ∙ number-trip v x l h stop in
-          rw (ne-eqb y 45 (λ q. omega arith), back)
-  signed-trip (negsuc v) h = rw (number-trip (suc v) x l h stop)
+pub signed-trip : (z : ℤ) (r : List ℕ) → natAbs z < 100000 → Stops isDigit r → signed (signedNumeral z ++ r) ≡ some z r
+unfolding signedNumeral signed then belowZero
+signed-trip (pos v) r h stop = go (numeral v) refl (numeral-spelled v h)
+  where
+    go : (w : List ℕ) → numeral v ≡ w → Spelled 5 v w → signed (w ++ r) ≡ some (pos v) r
+    go [] e s = absurd (omega (arith, s .some-digit))
+    go (y ∷ w) e s =
+        let d = digit-bounds y (s .digits .0) in
+        let back : number (y ∷ (w ++ r)) ≡ some v r = ap (λ (u : List ℕ). number (u ++ r)) (sym e) ∙ number-stops v r h stop in
+        rw (ne-eqb y 45 (λ q. omega arith), back)
+signed-trip (negsuc v) r h stop = rw (number-stops (suc v) r h stop)
 
 -- and the other way: what is read as such a number is the writer's spelling of one of at most five digits
 pub signed-field : (l : List ℕ) (z : ℤ) (r : List ℕ) → signed l ≡ some z r → (natAbs z ≤ 99999) × (l ≡ signedNumeral z ++ r)
@@ -78,7 +77,7 @@ pub order-trip : (w : List ℕ) (n : ℤ) (m : ℕ) (r : List ℕ) → All isLab
 unfolding orderLine then isLabelByte isDigit
 order-trip w n m r h low high a b =
     let s = numeral m ++ 10 ∷ r in
-    rw (order-flat w n m r, label-trip w 32 (signedNumeral n ++ 32 ∷ s) h low high refl, word-trip space (signedNumeral n ++ 32 ∷ s), signed-trip 32 s refl n a, last-trip m r b)
+    rw (order-flat w n m r, label-trip w 32 (signedNumeral n ++ 32 ∷ s) h low high refl, word-trip space (signedNumeral n ++ 32 ∷ s), signed-trip n (32 ∷ s) a refl, last-trip m r b)
 
 pub form-order : (l w : List ℕ) (n : ℤ) (m : ℕ) (r : List ℕ) → OrderForm l w n m r → orderLine l ≡ some (w, (n, m)) r
 form-order l w n m r f =

@@ -195,11 +195,20 @@ pub all-append : (p : ℕ → Bool) (w : List ℕ) (v : List ℕ) → All p w �
 all-append p [] v h k = k
 all-append p (x ∷ w) v h k = (h .0, all-append p w v (h .1) k)
 
--- the run of w, stopped by x
-pub run-stopped : (p : ℕ → Bool) (w : List ℕ) (x : ℕ) (l : List ℕ) → All p w → p x ≡ false → run p (w ++ x ∷ l) ≡ w
+-- r does not begin with a byte that passes p
+abbrev pub Stops : (ℕ → Bool) → List ℕ → Type 0
+Stops p [] = Unit {0}
+Stops p (x ∷ l) = p x ≡ false
+
+-- the run of w, where what follows stops it, as x does
+pub run-stops : (p : ℕ → Bool) (w r : List ℕ) → All p w → Stops p r → run p (w ++ r) ≡ w
 unfolding run
-run-stopped p [] x l h e = rw e
-run-stopped p (y ∷ w) x l h e = rw (h .0) (ap (λ (v : List ℕ). y ∷ v) (run-stopped p w x l (h .1) e))
+run-stops p [] [] h e = refl
+run-stops p [] (x ∷ l) h e = rw e
+run-stops p (y ∷ w) r h e = rw (h .0) (ap (λ (v : List ℕ). y ∷ v) (run-stops p w r (h .1) e))
+
+pub run-stopped : (p : ℕ → Bool) (w : List ℕ) (x : ℕ) (l : List ℕ) → All p w → p x ≡ false → run p (w ++ x ∷ l) ≡ w
+run-stopped p w x l h e = run-stops p w (x ∷ l) h e
 
 pub word-trip : (w l : List ℕ) → word w (w ++ l) ≡ some tt l
 unfolding word
@@ -300,13 +309,16 @@ plain-yes n w s one = go (decLt n 10)
     go (yes h) = simp (one h)
     go (no h) = simp (lt-ltb 0 (length w) (s .some-digit), le-leb (length w) 5 (s .few), ne-eqb (getD w 0 0) 48 (s .led (omega (arith, h))), or-true)
 
-pub number-trip : (n x : ℕ) (l : List ℕ) → n < 100000 → isDigit x ≡ false → number (numeral n ++ x ∷ l) ≡ some n (x ∷ l)
+pub number-stops : (n : ℕ) (r : List ℕ) → n < 100000 → Stops isDigit r → number (numeral n ++ r) ≡ some n r
 unfolding number
-number-trip n x l h e =
+number-stops n r h e =
     let s = numeral-spelled n h in
     simp (
-      run-stopped isDigit (numeral n) x l (s .digits) e,
-      drop-append-seam (numeral n) (x ∷ l),
+      run-stops isDigit (numeral n) r (s .digits) e,
+      drop-append-seam (numeral n) r,
       s .value,
       plain-yes n (numeral n) s (λ k. ap length (numeral-small n k)),
     )
+
+pub number-trip : (n x : ℕ) (l : List ℕ) → n < 100000 → isDigit x ≡ false → number (numeral n ++ x ∷ l) ≡ some n (x ∷ l)
+number-trip n x l h e = number-stops n (x ∷ l) h e
