@@ -18,7 +18,7 @@ use Rattle.sheet_laws.specs.Writes.{label-short, digits-few, count-length}
 use Rattle.demands.specs.Longest.{two-digits, three-digits, four-digits, join-most}
 use Rattle.demands.specs.LongestSheet.{longestLabels, longestNetwork, longestStarts, longest-writable, eight-bytes, join-exact}
 use Rattle.demands.specs.Grid.{OnGrid, number-range}
-use Rattle.demands.specs.Orderable.{Orderable, order-exact, order-done}
+use Rattle.demands.specs.Orderable.{OrderTables, Orderable, order-exact, order-done}
 
 -- an n of the grid is spelled in at most five bytes
 pub signed-few : (z : ℤ) → OnGrid z → length (signedNumeral z) ≤ 5
@@ -41,32 +41,32 @@ order-length anchor labels widths starts k =
     )
 
 module _ (anchor : ℤ) (n : ℕ) (labels : List ℕ) (lent : Lent) (starts : List ℕ) where
-  pub order-most : Orderable anchor n labels lent starts → length (orderText anchor n labels (lent .widths) starts) ≤ 2314
+  pub order-most : OrderTables anchor n labels lent starts → ((k : ℕ) → k < n → (1 ≤ at starts k) × (at starts k ≤ 16384)) → length (orderText anchor n labels (lent .widths) starts) ≤ 2314
   unfolding orderText
-  order-most w =
-      let net = w .tables .network in
+  order-most t planned =
+      let net = t .network in
       let J = joinFrom n 0 (orderLineText anchor labels (lent .widths) starts) in
       let most = join-most 18 n 0 (orderLineText anchor labels (lent .widths) starts) (λ k l. each k (omega arith)) in
       omega (arith, net .few, length-append (countText orderWord n) J, count-length orderWord n, three-digits n (omega (arith, net .few)))
     where
       each : (k : ℕ) → k < n → length (orderLineText anchor labels (lent .widths) starts k) ≤ 18
       each k l =
-          let v = w .tables .network .width k l in
-          let s = w .planned k l in
+          let v = t .network .width k l in
+          let s = planned k l in
           omega (
             arith,
             order-length anchor labels (lent .widths) starts k,
             label-short labels k,
-            signed-few (gridNumber anchor (at starts k) (at (lent .widths) k)) (number-range anchor (at starts k) (at (lent .widths) k) (w .tables .anchored) (s .0) (s .1) (v .0) (v .1)),
+            signed-few (gridNumber anchor (at starts k) (at (lent .widths) k)) (number-range anchor (at starts k) (at (lent .widths) k) (t .anchored) (s .0) (s .1) (v .0) (v .1)),
             two-digits (at (lent .widths) k) (omega arith),
           )
 
   -- no written order sheet is longer, and a text of 2,314 bytes has room for every one
   pub order-written-most : (text : List ℕ) → orderWriting anchor n labels lent starts text .answer .number ≡ 0 → orderWriting anchor n labels lent starts text .answer .length ≤ 2314
-  order-written-most text z = rw (order-done anchor n labels lent starts text z) (order-most (order-exact anchor n labels lent starts text .0 z .0))
+  order-written-most text z = rw (order-done anchor n labels lent starts text z) (let w = order-exact anchor n labels lent starts text .0 z .0 in order-most (w .tables) (w .planned))
 
   pub order-room : (text : List ℕ) → Orderable anchor n labels lent starts → 2314 ≤ length text → orderWriting anchor n labels lent starts text .answer .number ≡ 0
-  order-room text w room = order-exact anchor n labels lent starts text .1 (w, omega (arith, order-most w))
+  order-room text w room = order-exact anchor n labels lent starts text .1 (w, omega (arith, order-most (w .tables) (w .planned)))
 
 -- the paths of the longest sheet, from the highest anchor: each n is 33,854
 pub longest-orderable : Orderable (pos 1024) 128 longestLabels longestNetwork longestStarts

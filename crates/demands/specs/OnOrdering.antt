@@ -22,6 +22,7 @@ use Rattle.plan_laws.specs.Answers.{unless-done, unless-refused}
 use Rattle.demands.specs.OnLeaving.{unless-is, front-kept}
 use Rattle.demands.specs.SheetTrip.{sheetOf}
 use Rattle.demands.specs.Orderable.{OrderTables, Orderable, tables-clear, clear-tables, order-exact, order-done, written-order}
+use Rattle.demands.specs.LongestOrder.{order-most}
 use Rattle.demands.specs.OrderTrip.{order-same}
 use Rattle.demands.specs.OnOrderLines.{OrderWrong, OrderRight, OrderReads, wrongAt, rightly, order-reads, order-wrong, order-right, wrong-named}
 use Rattle.demands.specs.OrderBack.{Taken, right-taken, right-text}
@@ -113,12 +114,19 @@ module _ (anchor : ℤ) (text : List ℕ) (n : ℕ) (labels : List ℕ) (lent : 
     ordering-text =
         right-text anchor n labels (lent .widths) starts text (leftBehind .tables) (tables .labelsSize) (tables .startsSize) (tables .network .few) (ordering-right z .1)
 
+    -- so it has no more than 2,314 bytes
+    read-tables : OrderTables anchor n labels lent (leftBehind .tables)
+    read-tables = record { network = tables .network; labelsSize = tables .labelsSize; startsSize = ordering-starts .size; anchored = tables .anchored }
+
+    pub ordering-most : length text ≤ 2314
+    ordering-most = omega (arith, ap length ordering-text, order-most anchor n labels lent (leftBehind .tables) read-tables (taken .planned))
+
     -- where no two labels are alike it is written back, given room, to the same text
     pub ordering-written : ((k : ℕ) → k < n → labelTwice labels k ≡ false) → (room : List ℕ) → length text ≤ length room
         → (orderWriting anchor n labels lent (leftBehind .tables) room .answer .number ≡ 0) × (sheetOf (orderWriting anchor n labels lent (leftBehind .tables) room) ≡ text)
     ordering-written once room fits =
         let w : Orderable anchor n labels lent (leftBehind .tables) = record {
-          tables = record { network = tables .network; labelsSize = tables .labelsSize; startsSize = ordering-starts .size; anchored = tables .anchored };
+          tables = read-tables;
           formed = taken .formed;
           once = once;
           planned = taken .planned;
