@@ -46,16 +46,20 @@ pub mod OnProgram
 pub mod OnAsking
 pub mod LongestSheet
 pub mod SheetForm
--- the grid: RULES 27
+-- the grid and the order sheet (RULES 27): numbers, what is accepted and written, and the longest
 pub mod Grid
 pub mod Orderable
 pub mod LongestOrder
+-- its lines, what is read back, and written back
 pub mod OrderForms
 pub mod OnOrderLines
 pub mod OrderTrip
 pub mod OrderBack
+-- the calls as they answer, and programs that are unfit
 pub mod OnOrdering
 pub mod OrderTests
 pub mod OrderUnfit
+-- how many bytes of a text its answer depends on, and the ask program
 pub mod OrderBytes
+pub mod OrderCut
 pub mod OnOrderAsking

@@ -86,18 +86,18 @@ digits : (length (signedNumeral (gridNumber (pos 1024) 16384 64)) ≡ 5) × (len
 unfolding gridNumber signedNumeral numeral spell
 digits = (refl, refl, refl)
 
+pub longest-line : (k : ℕ) → k < 128 → length (orderLineText (pos 1024) longestLabels (cleared 128 64) longestStarts k) ≡ 18
+longest-line k l =
+    let same : length (signedNumeral (gridNumber (pos 1024) (at longestStarts k) (at (cleared 128 64) k))) ≡ length (signedNumeral (gridNumber (pos 1024) 16384 64))
+    = rw (cleared-at 128 16384 k l, cleared-at 128 64 k l) in
+    omega (arith, order-length (pos 1024) longestLabels (cleared 128 64) longestStarts k, eight-bytes k l, digits .0, ap (λ (v : ℕ). length (numeral v)) (cleared-at 128 64 k l), digits .1)
+
 pub longest-order : length (orderText (pos 1024) 128 longestLabels (cleared 128 64) longestStarts) ≡ 2314
 unfolding orderText
 longest-order =
     let J = joinFrom 128 0 (orderLineText (pos 1024) longestLabels (cleared 128 64) longestStarts) in
-    let each = join-exact 18 128 0 (orderLineText (pos 1024) longestLabels (cleared 128 64) longestStarts) (λ k l. line k (omega arith)) in
+    let each = join-exact 18 128 0 (orderLineText (pos 1024) longestLabels (cleared 128 64) longestStarts) (λ k l. longest-line k (omega arith)) in
     omega (arith, length-append (countText orderWord 128) J, count-length orderWord 128, digits .2)
-  where
-    line : (k : ℕ) → k < 128 → length (orderLineText (pos 1024) longestLabels (cleared 128 64) longestStarts k) ≡ 18
-    line k l =
-        let same : length (signedNumeral (gridNumber (pos 1024) (at longestStarts k) (at (cleared 128 64) k))) ≡ length (signedNumeral (gridNumber (pos 1024) 16384 64))
-        = rw (cleared-at 128 16384 k l, cleared-at 128 64 k l) in
-        omega (arith, order-length (pos 1024) longestLabels (cleared 128 64) longestStarts k, eight-bytes k l, digits .0, ap (λ (v : ℕ). length (numeral v)) (cleared-at 128 64 k l), digits .1)
 
 -- it is written, and a text that is one byte shorter has no room for it
 pub longest-ordered : orderWriting (pos 1024) 128 longestLabels longestNetwork longestStarts (cleared 2314 0) .answer ≡ record { number = 0; place = 0; length = 2314 }

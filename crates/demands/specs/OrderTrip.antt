@@ -63,7 +63,7 @@ module _ (anchor : ℤ) (n : ℕ) (labels : List ℕ) (lent : Lent) (starts : Li
   abbrev step : ℕ → List ℕ → List ℕ → Line (List ℕ)
   step = orderStep anchor labels (lent .widths)
 
-  line-back : (k : ℕ) → k < n → (l : List ℕ) → step k (laid k starts under) (orderLineText anchor labels (lent .widths) starts k ++ l) ≡ right (laid (suc k) starts under) l
+  pub line-back : (k : ℕ) → k < n → (l : List ℕ) → step k (laid k starts under) (orderLineText anchor labels (lent .widths) starts k ++ l) ≡ right (laid (suc k) starts under) l
   line-back k h l =
       let few = w .tables .network .few in
       let v = w .tables .network .width k h in
