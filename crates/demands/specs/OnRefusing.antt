@@ -23,7 +23,7 @@ use Rattle.rules.specs.Limits.{Network}
 use Rattle.rules.specs.Plan.{netOf, short, tooClose}
 use Rattle.rules.specs.Sides.{Split, isHigh, hasSides}
 use Rattle.rules.specs.Writing.{badLabel, labelTwice, pairs, hasPlan, sheetText}
-use Rattle.rules.specs.Numbers.{fault, noFault, refuseIf, _orElse_, scan, square, nowhereShort, outside, countFault, sizeFault, badWidth, badGuard, badMirror, badEntry, orderFault, badStart, startFault, clashFault, sidesFault, roundsFault, badMember, listFault, networkFault, networkSizes, lentFault, planSizes, pathFault, judgeFault, whyFault, packFault, twoSidesFault, planFault, improveFault, floorFault, labelSizes, writeFault}
+use Rattle.rules.specs.Numbers.{fault, noFault, refuseIf, _orElse_, scan, square, nowhereShort, outside, countFault, sizeFault, badWidth, badGuard, badMirror, badEntry, orderFault, badStart, startFault, clashFault, sidesFault, roundsFault, badMember, listFault, networkFault, networkSizes, lentFault, planSizes, pathFault, judgeFault, whyFault, packFault, twoSidesFault, planFault, improveFault, floorFault, labelSizes, roomFault, writeFault}
 use Rattle.rules.specs.Calls.{Left, judging, refusedPacked, donePacked, packing, refusedPressed, donePressed, pressing, refusedWhy, doneWhy, explaining, siding, refusedPlanned, donePlanned, doneImproved, improving, donePlan, planning, flooring, writing}
 use Rattle.rules.specs.Refusing.{Test, Gives, Unsaid, Clash, sizeTest, countTest, widthTest, guardTest, mirrorTest, entryTest, pathTest, startTest, clashTest, sidesTest, roundsTest, lengthTest, memberTest, labelTest, labelTwiceTest, pairsTest, writtenStartTest, roomTest, networkTests, lentTests, judgeTests, whyTests, packTests, improveTests, planTests, twoSidesTests, floorTests, writeTests}
 use Rattle.table_laws.specs.Faults.{scan-clear}
@@ -224,27 +224,34 @@ flooring-gives n lent list =
     (refuse-gives 15 _ (outside 1 8 (length list)) (omega arith) (tells-outside 1 8 (length list))) (λ _.
     scan-gives 15 (length list) _ (badMember n (netOf lent) list) (omega arith) (λ k l. tells-member n (netOf lent) list k))))
 
+-- what the writer of a sheet tests besides, and that of an order sheet too: 2 of the labels and starts, 11 and 12
+-- before any other tests, and 16
+pub label-sizes-give : (labels starts : List ℕ) → Gives (sizeTest labels 1024 ∷ sizeTest starts 128 ∷ []) (labelSizes labels starts)
+unfolding labelSizes
+label-sizes-give labels starts = two-sizes labels starts 1024 128
+
+pub labels-give : (n : ℕ) (labels : List ℕ) (ts : List Test) (f : Fault) → Gives ts f
+    → Gives (labelTest n labels ∷ labelTwiceTest n labels ∷ ts) (scan 11 (badLabel labels) n orElse scan 12 (labelTwice labels) n orElse f)
+labels-give n labels ts f h =
+    then (labelTest n labels) _ (scan 11 (badLabel labels) n) _ (scan-gives 11 n _ (badLabel labels) (omega arith) (λ k l. tells-label labels k)) (λ z.
+    then (labelTwiceTest n labels) _ (scan 12 (labelTwice labels) n) _
+    (scan-gives 12 n _ (labelTwice labels) (omega arith) (λ k l. tells-twice labels k (scan-clear 11 (badLabel labels) n (omega arith) z k l))) (λ _. h))
+
+pub room-gives : (sheet text : List ℕ) → Gives (roomTest sheet text ∷ []) (roomFault sheet text)
+room-gives sheet text = refuse-gives 16 _ (ltb (length text) (length sheet)) (omega arith) (tells-lt _ _)
+
 -- the writer
 module _ (n : ℕ) (labels : List ℕ) (lent : Lent) (starts text : List ℕ) where
-  pub label-sizes-give : Gives (sizeTest labels 1024 ∷ sizeTest starts 128 ∷ []) (labelSizes labels starts)
-  unfolding labelSizes
-  label-sizes-give = two-sizes labels starts 1024 128
-
-  room-gives : Gives (roomTest (sheetText n labels lent starts) text ∷ []) (refuseIf (ltb (length text) (length (sheetText n labels lent starts))) 16 0)
-  room-gives = refuse-gives 16 _ (ltb (length text) (length (sheetText n labels lent starts))) (omega arith) (tells-lt _ _)
-
   write-gives : Gives (writeTests n labels lent starts text) (writeFault n labels lent starts text)
   unfolding writeTests writeFault
   write-gives =
       gives-append (lentTests n lent (sizeTest labels 1024 ∷ sizeTest starts 128 ∷ [])) _ (lentFault n lent (labelSizes labels starts)) _
-      (lent-gives n lent _ (labelSizes labels starts) label-sizes-give) (λ _.
-      then (labelTest n labels) _ (scan 11 (badLabel labels) n) _ (scan-gives 11 n _ (badLabel labels) (omega arith) (λ k l. tells-label labels k)) (λ z.
-      then (labelTwiceTest n labels) _ (scan 12 (labelTwice labels) n) _
-      (scan-gives 12 n _ (labelTwice labels) (omega arith) (λ k l. tells-twice labels k (scan-clear 11 (badLabel labels) n (omega arith) z k l))) (λ _.
+      (lent-gives n lent _ (labelSizes labels starts) (label-sizes-give labels starts)) (λ _.
+      labels-give n labels _ _ (
       then (pairsTest n (lent .guards)) _ (refuseIf (ltb 2000 (pairs n (lent .guards))) 1 0) _
       (refuse-gives 1 _ (ltb 2000 (pairs n (lent .guards))) (omega arith) (tells-lt 2000 (pairs n (lent .guards)))) (λ _.
       then (writtenStartTest n starts) _ (scan 7 (λ k. hasPlan n starts && badStart starts k) n) _
-      (scan-gives 7 n _ (λ k. hasPlan n starts && badStart starts k) (omega arith) (λ k l. tells-start n starts k)) (λ _. room-gives)))))
+      (scan-gives 7 n _ (λ k. hasPlan n starts && badStart starts k) (omega arith) (λ k l. tells-start n starts k)) (λ _. room-gives (sheetText n labels lent starts) text))))
 
   pub writing-gives : Gives (writeTests n labels lent starts text) (fault (writing n labels lent starts text .answer .number) (writing n labels lent starts text .answer .place))
   unfolding writing writeTests

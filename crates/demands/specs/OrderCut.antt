@@ -1,5 +1,6 @@
 -- One byte less than 2,318 is too few to know the answer to an order sheet (OrderBytes): a text of 127 of the
--- longest lines and one of 22 bytes, whose m is no width, is refused 3; without its last byte, 11. Assumes nothing.
+-- longest lines and one of 22 bytes, whose m is no width, is refused 3; without its last byte, 11. Assumes
+-- nothing.
 use Prim.Native.Nat.{ℕ, zero, suc, _+_, _≤_, _<_}
 use mathlib.Core.Path.{_≡_, refl, sym, ap, subst, _∙_}
 use mathlib.Core.Logic.{_≢_}

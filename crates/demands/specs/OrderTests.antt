@@ -22,7 +22,7 @@ use Rattle.rules.specs.Refusing.{Gives, Outside, once, sizeTest, startTest, lab
 use Rattle.table_laws.specs.Faults.{scan-clear}
 use Rattle.demands.specs.Tests.{Tells, refuse-gives, scan-gives, gives-append, gives-one, gives-none, Silent, silent-append, silent-short, silent-gives}
 use Rattle.demands.specs.Words.{tells-lt, tells-outside, tells-label, tells-twice}
-use Rattle.demands.specs.OnRefusing.{then, unsaid, lent-unsaid, lent-gives, label-sizes-give, start-gives}
+use Rattle.demands.specs.OnRefusing.{then, unsaid, lent-unsaid, lent-gives, start-gives, label-sizes-give, labels-give, room-gives}
 use Rattle.demands.specs.Grid.{anchorOut, anchor-tells}
 use Rattle.demands.specs.Orderable.{OrderTables, tables-clear, clear-tables}
 use Rattle.demands.specs.OnOrdering.{ordering-tables}
@@ -69,13 +69,13 @@ module _ (anchor : ℤ) (start width : ℕ) where
 -- the order sheet
 module _ (anchor : ℤ) (n : ℕ) (labels : List ℕ) (lent : Lent) (starts : List ℕ) where
   -- 2 of the labels and the starts, and 17
-  beside-give : (text : List ℕ) → Gives (sizeTest labels 1024 ∷ sizeTest starts 128 ∷ anchorTest anchor ∷ []) (labelSizes labels starts orElse anchorFault anchor)
-  beside-give text =
-      gives-append (sizeTest labels 1024 ∷ sizeTest starts 128 ∷ []) _ (labelSizes labels starts) _ (label-sizes-give n labels lent starts text) (λ _. anchor-gives anchor)
+  beside-give : Gives (sizeTest labels 1024 ∷ sizeTest starts 128 ∷ anchorTest anchor ∷ []) (labelSizes labels starts orElse anchorFault anchor)
+  beside-give =
+      gives-append (sizeTest labels 1024 ∷ sizeTest starts 128 ∷ []) _ (labelSizes labels starts) _ (label-sizes-give labels starts) (λ _. anchor-gives anchor)
 
   tables-give : Gives (orderReadTests anchor n labels lent starts) (orderReadFault anchor n labels lent starts)
   unfolding orderReadTests orderReadFault
-  tables-give = lent-gives n lent _ _ (beside-give [])
+  tables-give = lent-gives n lent _ _ beside-give
 
   tables-silent : Silent (orderReadTests anchor n labels lent starts)
   unfolding orderReadTests
@@ -86,11 +86,7 @@ module _ (anchor : ℤ) (n : ℕ) (labels : List ℕ) (lent : Lent) (starts : Li
     unfolding orderWriteTests orderWriteFault
     write-gives =
         gives-append (orderReadTests anchor n labels lent starts) _ (orderReadFault anchor n labels lent starts) _ tables-give (λ _.
-        then (labelTest n labels) _ (scan 11 (badLabel labels) n) _ (scan-gives 11 n _ (badLabel labels) (omega arith) (λ k l. tells-label labels k)) (λ z.
-        then (labelTwiceTest n labels) _ (scan 12 (labelTwice labels) n) _
-        (scan-gives 12 n _ (labelTwice labels) (omega arith) (λ k l. tells-twice labels k (scan-clear 11 (badLabel labels) n (omega arith) z k l))) (λ _.
-        then (startTest n starts) _ (startFault n starts) _ (start-gives n lent starts) (λ _.
-        refuse-gives 16 _ (ltb (length text) (length (orderText anchor n labels (lent .widths) starts))) (omega arith) (tells-lt _ _)))))
+        labels-give n labels _ _ (then (startTest n starts) _ (startFault n starts) _ (start-gives n lent starts) (λ _. room-gives (orderText anchor n labels (lent .widths) starts) text)))
 
     abbrev written : SheetWritten
     written = orderWriting anchor n labels lent starts text .answer
