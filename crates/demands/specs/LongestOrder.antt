@@ -1,20 +1,21 @@
 -- The longest order sheet (RULES 27) has 2,314 bytes: none that is written has more, so a text of that size is
 -- always enough, and one of that length is written, for which one byte less is no room. Assumes nothing.
-use Prim.Native.Nat.{ℕ, suc, _+_, _≤_, _<_}
+use Prim.Native.Nat.{ℕ, suc, _≤_, _<_}
 use mathlib.Core.Path.{_≡_, refl, ap, _∙_}
 use mathlib.Core.Logic.{_≢_}
-use mathlib.Core.List.{List, _++_}
+use mathlib.Core.List.{List}
 use lib.ListN.{length, length-append}
 use lib.IntN.{ℤ, pos, negsuc}
 use native.Mathlib.Omega.{arith}
 use Rattle.rules.specs.declared.SheetWritten.{SheetWritten}
 use Rattle.rules.specs.Tables.{at, cleared, Lent}
-use Rattle.rules.specs.Text.{space, lineFeed, hyphen, orderWord, spell, numeral, signedNumeral}
-use Rattle.rules.specs.Writing.{labelOf, joinFrom, countText}
+use Rattle.rules.specs.Text.{hyphen, orderWord, spell, numeral, signedNumeral}
+use Rattle.rules.specs.Writing.{joinFrom, countText}
 use Rattle.rules.specs.Grid.{gridNumber, orderLineText, orderText}
 use Rattle.rules.specs.Calls.{Left, orderWriting}
 use Rattle.table_laws.specs.Tables.{cleared-length, cleared-at}
 use Rattle.sheet_laws.specs.Writes.{label-short, digits-few, count-length}
+use Rattle.sheet_laws.specs.Grid.{order-line-length}
 use Rattle.demands.specs.Longest.{two-digits, three-digits, four-digits, join-most}
 use Rattle.demands.specs.LongestSheet.{longestLabels, longestNetwork, longestStarts, longest-writable, eight-bytes, join-exact}
 use Rattle.demands.specs.Grid.{OnGrid, number-range}
@@ -25,20 +26,6 @@ pub signed-few : (z : ℤ) → OnGrid z → length (signedNumeral z) ≤ 5
 unfolding signedNumeral
 signed-few (pos v) h = digits-few v (omega arith)
 signed-few (negsuc v) h = omega (arith, length-append hyphen (numeral (suc v)), four-digits (suc v) (omega arith))
-
-order-length : (anchor : ℤ) (labels widths starts : List ℕ) (k : ℕ)
-    → length (orderLineText anchor labels widths starts k)
-    ≡ length (labelOf labels k) + length (signedNumeral (gridNumber anchor (at starts k) (at widths k))) + length (numeral (at widths k)) + 3
-unfolding orderLineText
-order-length anchor labels widths starts k =
-    let g = signedNumeral (gridNumber anchor (at starts k) (at widths k)) in
-    let m = numeral (at widths k) in
-    omega (
-      arith,
-      length-append (labelOf labels k) (space ++ (g ++ (space ++ (m ++ lineFeed)))),
-      length-append g (space ++ (m ++ lineFeed)),
-      length-append m lineFeed,
-    )
 
 module _ (anchor : ℤ) (n : ℕ) (labels : List ℕ) (lent : Lent) (starts : List ℕ) where
   pub order-most : OrderTables anchor n labels lent starts → ((k : ℕ) → k < n → (1 ≤ at starts k) × (at starts k ≤ 16384)) → length (orderText anchor n labels (lent .widths) starts) ≤ 2314
@@ -55,7 +42,7 @@ module _ (anchor : ℤ) (n : ℕ) (labels : List ℕ) (lent : Lent) (starts : Li
           let s = planned k l in
           omega (
             arith,
-            order-length anchor labels (lent .widths) starts k,
+            order-line-length anchor labels (lent .widths) starts k,
             label-short labels k,
             signed-few (gridNumber anchor (at starts k) (at (lent .widths) k)) (number-range anchor (at starts k) (at (lent .widths) k) (t .anchored) (s .0) (s .1) (v .0) (v .1)),
             two-digits (at (lent .widths) k) (omega arith),
@@ -90,7 +77,7 @@ pub longest-line : (k : ℕ) → k < 128 → length (orderLineText (pos 1024) lo
 longest-line k l =
     let same : length (signedNumeral (gridNumber (pos 1024) (at longestStarts k) (at (cleared 128 64) k))) ≡ length (signedNumeral (gridNumber (pos 1024) 16384 64))
     = rw (cleared-at 128 16384 k l, cleared-at 128 64 k l) in
-    omega (arith, order-length (pos 1024) longestLabels (cleared 128 64) longestStarts k, eight-bytes k l, digits .0, ap (λ (v : ℕ). length (numeral v)) (cleared-at 128 64 k l), digits .1)
+    omega (arith, order-line-length (pos 1024) longestLabels (cleared 128 64) longestStarts k, eight-bytes k l, digits .0, ap (λ (v : ℕ). length (numeral v)) (cleared-at 128 64 k l), digits .1)
 
 pub longest-order : length (orderText (pos 1024) 128 longestLabels (cleared 128 64) longestStarts) ≡ 2314
 unfolding orderText

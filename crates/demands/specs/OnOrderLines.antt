@@ -16,7 +16,7 @@ use Rattle.rules.specs.Text.{Parsed, none, some, then, orderWord, run, label}
 use Rattle.rules.specs.Sheet.{isRow, Line, wrong, right, Section, halt, done, lines, countLine, counted, after, ended, lastPart}
 use Rattle.rules.specs.Grid.{gridNumber, gridStart, orderLine, orderMeans, orderStep, orderFrom}
 use Rattle.sheet_laws.specs.Rows.{row-same, row-bytes}
-use Rattle.sheet_laws.specs.OrderLines.{order-ill, order-other, order-wide, order-off, order-fine}
+use Rattle.sheet_laws.specs.Lines.{order-ill, order-other, order-width, order-none, order-fine}
 use Rattle.demands.specs.Forms.{CountForm, count-form, form-count}
 use Rattle.demands.specs.OnLines.{HasLabel, not-row, row-not, FirstRight, LinesSay, stops, ends, lines-say, lines-only}
 use Rattle.demands.specs.OnReading.{NoCount, count-says, no-count, none-count}
@@ -51,9 +51,9 @@ module _ (anchor : ℤ) (labels widths : List ℕ) (k : ℕ) (starts l : List �
 
           by : (t : Bool) → isRow labels w k ≡ t → Dec (m ≡ at widths k) → Dec (gridStart anchor (at widths k) n ≡ 0) → OrderSays anchor labels widths k starts l step
           by false t c d = rw (order-other anchor labels widths k starts l w n m r e t) (other w n m r f (not-row labels w k t))
-          by true t (no c) d = rw (order-wide anchor labels widths k starts l w n m r e t c) (width w n m r f (row-bytes labels w k t) c)
+          by true t (no c) d = rw (order-width anchor labels widths k starts l w n m r e t c) (width w n m r f (row-bytes labels w k t) c)
           by true t (yes c) (yes d) =
-              rw (order-off anchor labels widths k starts l w n m r e t c d)
+              rw (order-none anchor labels widths k starts l w n m r e t c (gridStart anchor (at widths k) n) refl d)
               (off w n r (subst (λ (x : ℕ). OrderForm l w n x r) c f) (row-bytes labels w k t) (no-start anchor (at widths k) n .0 d))
           by true t (yes c) (no d) =
               let s = number-back anchor (at widths k) n d in
@@ -67,12 +67,12 @@ module _ (anchor : ℤ) (labels widths : List ℕ) (k : ℕ) (starts l : List �
       go none e = order-ill anchor labels widths k starts l e
       go (some (w, (n, m)) r) e = absurd (h w n m r (order-form l w n m r e))
   order-only x (other w n m r f h) = order-other anchor labels widths k starts l w n m r (form-order l w n m r f) (row-not labels w k h)
-  order-only x (width w n m r f h d) = order-wide anchor labels widths k starts l w n m r (form-order l w n m r f) (row-same labels w k h) d
+  order-only x (width w n m r f h d) = order-width anchor labels widths k starts l w n m r (form-order l w n m r f) (row-same labels w k h) d
   order-only x (off w n r f h d) =
-      order-off anchor labels widths k starts l w n (at widths k) r (form-order l w n (at widths k) r f) (row-same labels w k h) refl (no-start anchor (at widths k) n .1 d)
+      order-none anchor labels widths k starts l w n (at widths k) r (form-order l w n (at widths k) r f) (row-same labels w k h) refl (gridStart anchor (at widths k) n) refl (no-start anchor (at widths k) n .1 d)
   order-only x (fine w b r f h p q) =
       let n = gridNumber anchor b (at widths k) in
-      order-fine anchor labels widths k starts l w n (at widths k) r (form-order l w n (at widths k) r f) (row-same labels w k h) refl b (start-back anchor b (at widths k) p q) p
+      order-fine anchor labels widths k starts l w n (at widths k) r (form-order l w n (at widths k) r f) (row-same labels w k h) refl b (sym (start-back anchor b (at widths k) p q)) p
 
 -- a line that is missing is of wrong form
 pub order-missing : (anchor : ℤ) (labels widths : List ℕ) (k : ℕ) (starts : List ℕ) → orderStep anchor labels widths k starts [] ≡ wrong 11

@@ -21,7 +21,7 @@ use Rattle.rules.specs.Calls.{Left, orderReading}
 use Rattle.table_laws.specs.Tables.{cleared-length, cleared-at}
 use Rattle.sheet_laws.specs.Texts.{All, word-trip, label-trip}
 use Rattle.sheet_laws.specs.Writes.{count-length, good-label}
-use Rattle.sheet_laws.specs.OrderLines.{order-ill, order-wide}
+use Rattle.sheet_laws.specs.Lines.{order-ill, order-width}
 use Rattle.demands.specs.RoundTrip.{label-all}
 use Rattle.demands.specs.LongestSheet.{longestLabels, longestNetwork, longestStarts, longest-writable, eight-bytes, join-exact}
 use Rattle.demands.specs.OnLines.{FirstRight, start, more}
@@ -91,7 +91,7 @@ eight = eight-bytes 127 (omega arith)
 -- with its line feed it has the form, and an m that is no width
 whole-line : orderStep (pos 1024) longestLabels (cleared 128 64) 127 (laid 127 longestStarts under) (orderedLine name (negsuc 99998) 12345) ≡ wrong 3
 whole-line =
-    order-wide (pos 1024) longestLabels (cleared 128 64) 127 (laid 127 longestStarts under) (orderedLine name (negsuc 99998) 12345) name (negsuc 99998) 12345 []
+    order-width (pos 1024) longestLabels (cleared 128 64) 127 (laid 127 longestStarts under) (orderedLine name (negsuc 99998) 12345) name (negsuc 99998) 12345 []
     (ap orderLine (sym (append-nil (orderedLine name (negsuc 99998) 12345))) ∙ order-trip name (negsuc 99998) 12345 [] all-bytes (good .0) (omega (arith, eight)) (omega arith) (omega arith))
     (good .1) (λ e. omega (arith, cleared-at 128 64 127 (omega arith)))
 

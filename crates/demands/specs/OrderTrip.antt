@@ -18,7 +18,7 @@ use Rattle.rules.specs.Writing.{labelOf, joinFrom, countText}
 use Rattle.rules.specs.Grid.{gridNumber, orderLine, orderStep, orderFrom, orderLineText, orderText}
 use Rattle.rules.specs.Calls.{Left, left, orderWriting, orderOutcome, orderReading}
 use Rattle.sheet_laws.specs.Writes.{label-short, good-label}
-use Rattle.sheet_laws.specs.OrderLines.{order-fine}
+use Rattle.sheet_laws.specs.Lines.{order-fine}
 use Rattle.plan_laws.specs.Answers.{unless-done}
 use Rattle.demands.specs.RoundTrip.{label-all, lines-back}
 use Rattle.demands.specs.SheetTrip.{sheetOf}
@@ -74,7 +74,7 @@ module _ (anchor : ℤ) (n : ℕ) (labels : List ℕ) (lent : Lent) (starts : Li
       let short = grid-few g (number-range anchor (at starts k) m (w .tables .anchored) (s .0) (s .1) (v .0) (v .1)) in
       order-fine anchor labels (lent .widths) k (laid k starts under) (orderLineText anchor labels (lent .widths) starts k ++ l) (labelOf labels k) g m l
       (flat ∙ order-trip (labelOf labels k) g m l (label-all labels k) (good .0) (label-short labels k) short (omega arith))
-      (good .1) refl (at starts k) (start-back anchor (at starts k) m (s .0) (s .1)) (s .0)
+      (good .1) refl (at starts k) (sym (start-back anchor (at starts k) m (s .0) (s .1))) (s .0)
       ∙ ap (λ (t : List ℕ). right t l) (laid-more k starts under (omega (arith, w .tables .startsSize)) (omega arith))
     where
       flat : orderLine (orderLineText anchor labels (lent .widths) starts k ++ l)

@@ -1,7 +1,6 @@
 pub mod Texts
 pub mod Rows
 pub mod Lines
-pub mod OrderLines
 pub mod Writes
 pub mod FirstBytes
 pub mod Sizes
