@@ -21,6 +21,7 @@ use Rattle.rules.specs.Calls.{noCentre, centring, centreNumber}
 use Rattle.table_laws.specs.Faults.{refuse-not, refuse-clear, or-clear, or-none}
 use Rattle.table_laws.specs.Limits.{clear-of, outside-not, outside-none}
 use Rattle.plan_laws.specs.Answers.{unless-done, unless-refused}
+use Rattle.sheet_laws.specs.Grid.{above}
 
 -- d steps above the lower edge of slot 1 and half a width, there and back
 edge-up : (a : ℤ) (w d : ℕ) → a +ℤ pos (d + w) ≡ pos d +ℤ (a +ℤ pos w)
@@ -178,14 +179,10 @@ pub record Centre (n : ℤ) (x : Float) : Type 0 where
   pub some : 1 ≤ quarter
   pub value : HasValue x false quarter 4
 
-sub-pos : (p m : ℕ) → m ≤ p → pos p +ℤ negℤ (pos m) ≡ pos (p - m)
-sub-pos p zero h = let e : p + 0 ≡ p - 0 = omega arith in ap pos e
-sub-pos p (suc m) h = rw (le-ltb p (suc m) h)
-
 whole : (n : ℤ) → OnGrid n → (q : ℕ) × (quarters n ≡ pos q) × (1 ≤ q) × (q < 2000000)
 unfolding quarters
 whole (pos v) h = (772400 + 25 * v, refl, omega arith, omega arith)
-whole (negsuc v) h = (772400 - 25 * suc v, sub-pos 772400 (25 * suc v) (omega arith), omega arith, omega arith)
+whole (negsuc v) h = (772400 - 25 * suc v, above 772400 (25 * suc v) (omega arith), omega arith, omega arith)
 
 sum-is : (n : ℤ) → quarters n ≡ pos (4 * 193100) +ℤ pos 25 *ℤ n
 unfolding quarters

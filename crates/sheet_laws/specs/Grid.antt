@@ -44,7 +44,7 @@ below : (u v : ℕ) → u < v → pos u +ℤ negℤ (pos v) ≡ negsuc (v - suc 
 below u zero h = absurd (omega arith)
 below u (suc v) h = rw (lt-ltb u (suc v) h)
 
-above : (u v : ℕ) → v ≤ u → pos u +ℤ negℤ (pos v) ≡ pos (u - v)
+pub above : (u v : ℕ) → v ≤ u → pos u +ℤ negℤ (pos v) ≡ pos (u - v)
 above u zero h = let e : u + 0 ≡ u - 0 = omega arith in ap pos e
 above u (suc v) h = rw (le-ltb u (suc v) h)
 
