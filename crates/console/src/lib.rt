@@ -5,7 +5,6 @@
 // bytes that came are those of the input, each once and in order, and that those handed to `write` arrive, is
 // only seen by running a program (examples/check).
 use libc::STDERR_FILENO;
-ghost use mathlib.Core.Path.{_≡_};
 ghost use Prim.Native.Nat.{_≤_, _<_};
 ghost use lib.ListN.{length};
 ghost use Rattle.rules.specs.Program.{refusalText};

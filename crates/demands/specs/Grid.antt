@@ -1,6 +1,6 @@
 -- RULES 27, the grid: n and the start determine each other, n is one of -1,023 to 33,854, and the centre that is
 -- called for is 193,100 + 6.25 n GHz with nothing lost. Assumes nothing.
-use Prim.Native.Nat.{ℕ, zero, suc, _+_, _-_, _*_, _/_, _%_, _^_, _≤_, _<_}
+use Prim.Native.Nat.{ℕ, suc, _+_, _-_, _*_, _/_, _%_, _^_, _≤_, _<_}
 use mathlib.Core.Path.{_≡_, refl, sym, ap, subst, _∙_}
 use mathlib.Core.Logic.{_≢_, _↔_}
 use mathlib.Core.Bool.{Bool, true, false, cond, _&&_, _||_, true≢false}

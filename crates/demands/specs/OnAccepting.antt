@@ -7,18 +7,16 @@ use mathlib.Core.Bool.{Bool, true, false, cond}
 use mathlib.Core.List.{List}
 use native.Mathlib.Omega.{arith}
 use lib.ListN.{length}
-use Rattle.rules.specs.declared.Fault.{Fault}
 use Rattle.rules.specs.declared.Packed.{Packed}
 use Rattle.rules.specs.declared.Pressed.{Pressed}
 use Rattle.rules.specs.declared.Planned.{Planned}
 use Rattle.rules.specs.declared.Floored.{Floored}
 use Rattle.rules.specs.declared.Why.{Why}
-use Rattle.rules.specs.Tables.{at, cell, Lent}
+use Rattle.rules.specs.Tables.{at, Lent}
 use Rattle.rules.specs.Plan.{netOf, Conflict}
 use Rattle.rules.specs.Sides.{Split, isHigh, hasSides}
-use Rattle.rules.specs.Floor.{Clique}
 use Rattle.rules.specs.Writing.{sheetText}
-use Rattle.rules.specs.Numbers.{noFault, outside, refuseIf, scan, badMember, listFault, lentFault, floorFault}
+use Rattle.rules.specs.Numbers.{noFault, outside, badMember, listFault, lentFault, floorFault}
 use Rattle.rules.specs.Calls.{Left, donePacked, packing, donePressed, pressing, doneWhy, explaining, siding, donePlanned, doneImproved, improving, donePlan, planning, flooring, writing}
 use Rattle.table_laws.specs.Faults.{refuse-not, or-none, scan-none}
 use Rattle.table_laws.specs.Limits.{clear-of, outside-none}

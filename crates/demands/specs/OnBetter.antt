@@ -1,6 +1,6 @@
 -- The better of two orders, as the reference handed back. Assumes nothing.
 use Prim.Native.Nat.{ℕ, _≤_, _<_}
-use mathlib.Core.Path.{_≡_, refl, sym, ap, subst, _∙_}
+use mathlib.Core.Path.{_≡_, sym, ap, _∙_}
 use mathlib.Core.Logic.{_≢_, _⊎_, inl, inr, _↔_}
 use mathlib.Core.Bool.{Bool, true, false, cond, _||_, not}
 use mathlib.Core.List.{List, []}
@@ -10,13 +10,12 @@ use lib.ListN.{length, take, length-take}
 use lib.Dec.{ltb, eqb}
 use borrow.Author.Tests.{eq-eqb, ne-eqb, lt-ltb, le-ltb}
 use denote.Ref.{RefT, now, ptr}
-use Rattle.rules.specs.declared.Fault.{Fault}
 use Rattle.rules.specs.declared.Packed.{Packed}
 use Rattle.rules.specs.Tables.{at, cleared, Lent}
-use Rattle.rules.specs.Plan.{Net, netOf, highest}
+use Rattle.rules.specs.Plan.{netOf, highest}
 use Rattle.rules.specs.Packing.{Order, lowest, packed}
 use Rattle.rules.specs.Numbers.{sizeFault, planSizes, packFault}
-use Rattle.rules.specs.Calls.{Left, unless, refusedPacked, donePacked, packing}
+use Rattle.rules.specs.Calls.{refusedPacked, donePacked, packing}
 use Rattle.rules.specs.Better.{packedAnswer, comparing, Part, Bettered}
 use Rattle.table_laws.specs.Tables.{cleared-length}
 use Rattle.plan_laws.specs.Plans.{respects-lows, respects-keeps, respected, packed-least}

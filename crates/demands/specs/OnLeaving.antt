@@ -21,12 +21,12 @@ use Rattle.rules.specs.declared.Floored.{Floored}
 use Rattle.rules.specs.declared.SheetWritten.{SheetWritten}
 use Rattle.rules.specs.Tables.{at, cleared, Lent}
 use Rattle.rules.specs.Limits.{KeptFrom}
-use Rattle.rules.specs.Plan.{Net, netOf}
+use Rattle.rules.specs.Plan.{netOf}
 use Rattle.rules.specs.Packing.{Rule, lowest, packed}
 use Rattle.rules.specs.Pressing.{arranged, byStart, pressed}
 use Rattle.rules.specs.Reason.{chain}
 use Rattle.rules.specs.Sides.{isHigh, hasSides, twoSided}
-use Rattle.rules.specs.Planning.{Run, startNext, greedy, swapped, draw, drawnPlace, stateAfter, tried, round, rounds, improved}
+use Rattle.rules.specs.Planning.{Run, startNext, greedy, swapped, stateAfter, tried, round, rounds, improved}
 use Rattle.rules.specs.Writing.{sheetText}
 use Rattle.rules.specs.Numbers.{judgeFault, whyFault, packFault, twoSidesFault, planFault, improveFault, floorFault, writeFault}
 use Rattle.rules.specs.Calls.{Left, unless, refusedPacked, donePacked, packing, refusedPressed, donePressed, pressing, refusedWhy, doneWhy, explaining, siding, refusedPlanned, donePlanned, doneImproved, improving, donePlan, planning, flooring, writing}

@@ -1,6 +1,6 @@
 -- The plan program: for every sheet that is read it prints that sheet with a valid plan, which is itself
 -- read back; for every other input it prints the refusal of the first line at fault. Assumes nothing.
-use Prim.Native.Nat.{ℕ, zero, suc, _+_, _≤_, _<_}
+use Prim.Native.Nat.{ℕ, _+_, _≤_}
 use mathlib.Core.Path.{_≡_, refl, sym, ap, _∙_}
 use mathlib.Core.Logic.{_≢_}
 use mathlib.Core.Bool.{Bool, true, false, not}
@@ -15,14 +15,14 @@ use Rattle.rules.specs.Tables.{at, cleared, Lent, lend}
 use Rattle.rules.specs.Limits.{Starts}
 use Rattle.rules.specs.Text.{pathsWord}
 use Rattle.rules.specs.Plan.{Net, netOf, Valid}
-use Rattle.rules.specs.Packing.{Rule, lowest, packed}
+use Rattle.rules.specs.Packing.{lowest}
 use Rattle.rules.specs.Sides.{isHigh, hasSides, twoSided}
 use Rattle.rules.specs.Planning.{startNext, greedy}
 use Rattle.rules.specs.Writing.{hasPlan, joinFrom, countText, pathText, pathsText, guardsText, startsText, sheetText}
 use Rattle.rules.specs.Calls.{Left, left, reading, donePlanned, doneImproved, donePlan, planning, writing}
 use Rattle.rules.specs.Program.{refusalText, plannedText, onSheet, printed}
 use Rattle.table_laws.specs.Scans.{found-at}
-use Rattle.table_laws.specs.Tables.{at-other, cleared-length}
+use Rattle.table_laws.specs.Tables.{cleared-length}
 use Rattle.plan_laws.specs.Arranged.{arranged-order, arranged-length}
 use Rattle.plan_laws.specs.Sided.{sided-length, sided-order}
 use Rattle.plan_laws.specs.Runs.{runAfter, run-packable}

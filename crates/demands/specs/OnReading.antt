@@ -13,9 +13,9 @@ use borrow.Author.Tests.{eq-eqb}
 use lib.ListN.{length, length-append}
 use Rattle.rules.specs.declared.Fault.{Fault}
 use Rattle.rules.specs.declared.SheetRead.{SheetRead}
-use Rattle.rules.specs.Tables.{at, cleared, Lent, lend, clearedNetwork}
+use Rattle.rules.specs.Tables.{cleared, Lent, lend, clearedNetwork}
 use Rattle.rules.specs.Text.{Parsed, none, some, then, run, label, pathsWord, guardsWord, startsWord}
-use Rattle.rules.specs.Sheet.{Line, wrong, right, Section, halt, done, lines, countLine, pathLine, guardLine, pathMeans, guardMeans, startMeans, pathStep, guardStep, startStep, counted, after, ended, lastPart, startsPart, guardsPart, sheetFrom}
+use Rattle.rules.specs.Sheet.{Line, wrong, Section, halt, done, lines, countLine, pathLine, guardLine, pathMeans, guardMeans, startMeans, pathStep, guardStep, startStep, counted, after, ended, lastPart, startsPart, guardsPart, sheetFrom}
 use Rattle.rules.specs.Writing.{countText}
 use Rattle.rules.specs.Numbers.{fault, noFault, refuseIf, _orElse_, sizeFault, networkSizes, labelSizes, sheetSizes}
 use Rattle.rules.specs.Calls.{Left, left, readOutcome, reading}

@@ -2,7 +2,7 @@
 -- their order, in the words of rules/specs/Refusing, is its answer; and tests give one answer alone
 -- (`gives-one`).
 -- Assumes nothing.
-use Prim.Native.Nat.{ℕ, _≤_, _<_}
+use Prim.Native.Nat.{ℕ}
 use mathlib.Core.Path.{_≡_, refl, sym, _∙_}
 use mathlib.Core.Bool.{Bool, true, false, cond, not, _&&_, true≢false}
 use mathlib.Core.List.{List, [], _∷_, _++_}
@@ -21,16 +21,16 @@ use Rattle.rules.specs.declared.Why.{Why}
 use Rattle.rules.specs.Tables.{at, Lent}
 use Rattle.rules.specs.Limits.{Network}
 use Rattle.rules.specs.Plan.{netOf, short, tooClose}
-use Rattle.rules.specs.Sides.{Split, isHigh, hasSides}
+use Rattle.rules.specs.Sides.{isHigh, hasSides}
 use Rattle.rules.specs.Writing.{badLabel, labelTwice, pairs, hasPlan, sheetText}
 use Rattle.rules.specs.Numbers.{fault, noFault, refuseIf, _orElse_, scan, square, nowhereShort, outside, countFault, sizeFault, badWidth, badGuard, badMirror, badEntry, orderFault, badStart, startFault, clashFault, sidesFault, roundsFault, badMember, listFault, networkFault, networkSizes, lentFault, planSizes, pathFault, judgeFault, whyFault, packFault, twoSidesFault, planFault, improveFault, floorFault, labelSizes, roomFault, writeFault}
 use Rattle.rules.specs.Calls.{Left, judging, refusedPacked, donePacked, packing, refusedPressed, donePressed, pressing, refusedWhy, doneWhy, explaining, siding, refusedPlanned, donePlanned, doneImproved, improving, donePlan, planning, flooring, writing}
-use Rattle.rules.specs.Refusing.{Test, Gives, Unsaid, Clash, sizeTest, countTest, widthTest, guardTest, mirrorTest, entryTest, pathTest, startTest, clashTest, sidesTest, roundsTest, lengthTest, memberTest, labelTest, labelTwiceTest, pairsTest, writtenStartTest, roomTest, networkTests, lentTests, judgeTests, whyTests, packTests, improveTests, planTests, twoSidesTests, floorTests, writeTests}
+use Rattle.rules.specs.Refusing.{Test, Gives, Unsaid, Clash, sizeTest, countTest, widthTest, guardTest, entryTest, pathTest, startTest, clashTest, sidesTest, roundsTest, lengthTest, memberTest, labelTest, labelTwiceTest, pairsTest, writtenStartTest, roomTest, networkTests, lentTests, judgeTests, whyTests, packTests, improveTests, planTests, twoSidesTests, floorTests, writeTests}
 use Rattle.table_laws.specs.Faults.{scan-clear}
 use Rattle.table_laws.specs.Chains.{count-clear, lent-clear}
 use Rattle.plan_laws.specs.Fits.{network-good}
 use Rattle.demands.specs.Finding.{found-sides, found-all}
-use Rattle.demands.specs.Tests.{told, Tells, refuse-gives, scan-gives, square-gives, gives-done, gives-append, Silent, silent-append, unless-gives, silent-gives}
+use Rattle.demands.specs.Tests.{told, refuse-gives, scan-gives, square-gives, gives-done, gives-append, Silent, silent-append, unless-gives, silent-gives}
 use Rattle.demands.specs.Words.{tells-lt, tells-le, tells-eq, tells-not, tells-outside, tells-guard, tells-mirror, tells-entry, tells-clash, tells-short, tells-member, tells-start, tells-label, tells-twice}
 
 -- a test, and those after it

@@ -7,21 +7,18 @@ use mathlib.Core.Logic.{_↔_}
 use mathlib.Core.Bool.{Bool, true, false, cond, true≢false}
 use mathlib.Core.List.{List, [], _∷_}
 use native.Mathlib.Omega.{arith}
-use lib.ListN.{length}
-use lib.Dec.{ltb, eqb}
+use lib.Dec.{eqb}
 use lib.IntN.{ℤ, pos, _+ℤ_}
 use Rattle.rules.specs.declared.Fault.{Fault}
 use Rattle.rules.specs.declared.SheetWritten.{SheetWritten}
 use Rattle.rules.specs.declared.OrderRead.{OrderRead}
 use Rattle.rules.specs.Tables.{Lent}
-use Rattle.rules.specs.Writing.{badLabel, labelTwice}
 use Rattle.rules.specs.Grid.{orderText}
-use Rattle.rules.specs.Numbers.{fault, noFault, refuseIf, _orElse_, scan, outside, startFault, labelSizes, anchorFault, centreFault, orderReadFault, orderWriteFault}
+use Rattle.rules.specs.Numbers.{fault, noFault, refuseIf, _orElse_, outside, startFault, labelSizes, anchorFault, centreFault, orderReadFault, orderWriteFault}
 use Rattle.rules.specs.Calls.{Left, left, centreNumber, orderWriting, orderReading}
-use Rattle.rules.specs.Refusing.{Gives, Outside, once, sizeTest, startTest, labelTest, labelTwiceTest, anchorTest, centreTests, orderReadTests, orderWriteTests}
-use Rattle.table_laws.specs.Faults.{scan-clear}
-use Rattle.demands.specs.Tests.{Tells, refuse-gives, scan-gives, gives-append, gives-one, gives-none, Silent, silent-append, silent-short, silent-gives}
-use Rattle.demands.specs.Words.{tells-lt, tells-outside, tells-label, tells-twice}
+use Rattle.rules.specs.Refusing.{Gives, Outside, once, sizeTest, startTest, anchorTest, centreTests, orderReadTests, orderWriteTests}
+use Rattle.demands.specs.Tests.{Tells, refuse-gives, gives-append, gives-one, gives-none, Silent, silent-append, silent-short, silent-gives}
+use Rattle.demands.specs.Words.{tells-outside}
 use Rattle.demands.specs.OnRefusing.{then, unsaid, lent-unsaid, lent-gives, start-gives, label-sizes-give, labels-give, room-gives}
 use Rattle.demands.specs.Grid.{anchorOut, anchor-tells}
 use Rattle.demands.specs.Orderable.{OrderTables, tables-clear, clear-tables}

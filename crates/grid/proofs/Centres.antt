@@ -1,13 +1,13 @@
 -- The centre as the program works it out: so many quarters, times a quarter, are rounded from the very number.
 -- Assumes nothing.
-use Prim.Native.Nat.{ℕ, _*_, _^_, _≤_, _<_}
+use Prim.Native.Nat.{ℕ, _*_, _^_, _<_}
 use mathlib.Core.Path.{_≡_, refl, sym, ap, _∙_}
 use mathlib.Core.Logic.{_≢_}
 use mathlib.Core.Bool.{false}
 use native.Mathlib.Omega.{arith}
 use lib.IntN.{ℤ, pos, negsuc, natAbs}
 use lib.Dec.{lit<}
-use lib.Ieee.{Float, fin, round, mul, ofInt, binary64}
+use lib.Ieee.{fin, round, mul, ofInt, binary64}
 use lib.Ieee.Exact.{HasValue}
 use lib.Ieee.Back.{round-whole}
 use lib.Ieee.Positive.{mul-at, positive-of-value}

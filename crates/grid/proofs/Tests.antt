@@ -6,7 +6,7 @@ use mathlib.Core.Bool.{Bool, true, false, _||_, true≢false}
 use native.Mathlib.Omega.{arith}
 use lib.IntN.{ℤ, pos, negsuc}
 use lib.Signed.{ltZ}
-use borrow.Author.Tests.{lt-ltb, le-ltb}
+use borrow.Author.Tests.{lt-ltb}
 use Rattle.rules.specs.declared.Fault.{Fault}
 use Rattle.rules.specs.Numbers.{fault, noFault, refuseIf, _orElse_, outside, anchorFault, centreFault}
 use Rattle.rules.specs.Calls.{centreNumber}

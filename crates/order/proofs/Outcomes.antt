@@ -1,5 +1,5 @@
 -- What both calls know of tables that are not refused, and what they leave. Assumes nothing.
-use Prim.Native.Nat.{ℕ, _≤_, _<_}
+use Prim.Native.Nat.{ℕ, _≤_}
 use mathlib.Core.Path.{_≡_, sym, ap, _∙_}
 use mathlib.Core.Logic.{_≢_}
 use mathlib.Core.List.{List}
@@ -8,19 +8,17 @@ use lib.ListN.{length}
 use lib.IntN.{ℤ}
 use borrow.Author.Tests.{eq-eqb, ne-eqb}
 use Rattle.rules.specs.declared.Fault.{Fault}
-use Rattle.rules.specs.declared.OrderRead.{OrderRead}
-use Rattle.rules.specs.Tables.{at, Lent}
-use Rattle.rules.specs.Limits.{Network, Starts}
+use Rattle.rules.specs.Tables.{Lent}
+use Rattle.rules.specs.Limits.{Network}
 use Rattle.rules.specs.Sheet.{halt, done}
 use Rattle.rules.specs.Writing.{badLabel, labelTwice}
 use Rattle.rules.specs.Grid.{orderFrom, orderText}
 use Rattle.rules.specs.Numbers.{_orElse_, scan, startFault, labelSizes, anchorFault, orderReadFault, orderWriteFault, roomFault}
-use Rattle.rules.specs.Calls.{Left, left, unless, refusedWritten, doneWritten, orderOutcome, orderReading, orderWriting}
+use Rattle.rules.specs.Calls.{left, unless, refusedWritten, doneWritten, orderOutcome, orderReading, orderWriting}
 use Rattle.table_laws.specs.Faults.{or-clear, or-assoc}
 use Rattle.table_laws.specs.Limits.{starts-within}
 use Rattle.table_laws.specs.Chains.{lent-clear}
 use Rattle.sheet_laws.specs.Sizes.{labels-clear}
-use Rattle.sheet_laws.specs.Grid.{lowered}
 use Rattle.order_writer.specs.Ready.{Ready}
 use Rattle.order.specs.Tests.{tableFault}
 

@@ -1,6 +1,5 @@
 -- What an order sheet is written from: tables that were tested, and an anchor counted from -100,000. Assumes nothing.
 use Prim.Native.Nat.{ℕ, _+_, _*_, _≤_, _<_}
-use mathlib.Core.Path.{_≡_}
 use mathlib.Core.List.{List}
 use lib.ListN.{length}
 use Rattle.rules.specs.Tables.{at}

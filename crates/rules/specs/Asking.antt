@@ -6,8 +6,6 @@ use mathlib.Core.List.{List, [], _∷_, _++_}
 use lib.ListN.{length, take}
 use lib.Dec.{eqb}
 use lib.IntN.{ℤ}
-use Rattle.rules.specs.declared.Fault.{Fault}
-use Rattle.rules.specs.declared.Why.{Why}
 use Rattle.rules.specs.Tables.{at, cleared, Lent}
 use Rattle.rules.specs.Plan.{Net, netOf, end, highest}
 use Rattle.rules.specs.Reason.{last}
@@ -15,7 +13,7 @@ use Rattle.rules.specs.Text.{Parsed, none, some, bytes, word, orderWord,
 use Rattle.rules.specs.Sheet.{find}
 use Rattle.rules.specs.Writing.{labelOf, joinFrom}
 use Rattle.rules.specs.Numbers.{anchorFault}
-use Rattle.rules.specs.Calls.{Left, judging, explaining, orderWriting}
+use Rattle.rules.specs.Calls.{judging, explaining, orderWriting}
 use Rattle.rules.specs.Program.{refusalText, onSheet}
 
 -- so many slots

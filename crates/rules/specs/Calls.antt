@@ -2,8 +2,8 @@
 -- call changes no table, but for the reader (RULES 14), and its other numbers are 0, but for the slots short
 -- of 8. Assumes nothing.
 use Prim.Native.Nat.{ℕ}
-use mathlib.Core.Bool.{Bool, false, cond}
-use mathlib.Core.List.{List, [], _++_}
+use mathlib.Core.Bool.{false, cond}
+use mathlib.Core.List.{List, _++_}
 use lib.ListN.{length, drop}
 use lib.Dec.{eqb}
 use lib.IntN.{ℤ, pos}
@@ -24,7 +24,7 @@ use Rattle.rules.specs.Packing.{lowest, packed}
 use Rattle.rules.specs.Pressing.{pressed}
 use Rattle.rules.specs.Reason.{chain, down, last}
 use Rattle.rules.specs.Sides.{hasSides, isHigh, twoSided, lowSide}
-use Rattle.rules.specs.Planning.{Run, greedy, improved}
+use Rattle.rules.specs.Planning.{greedy, improved}
 use Rattle.rules.specs.Floor.{floor}
 use Rattle.rules.specs.Sheet.{Section, halt, done, sheetFrom}
 use Rattle.rules.specs.Writing.{sheetText}

@@ -1,8 +1,8 @@
 -- RULES 27, the grid of ITU-T G.694.1: the number n of a block's centre, the centre itself, and the filter order
 -- sheet, as it is written and as it is read. Assumes nothing.
 use Prim.Native.Nat.{ℕ, _+_, _-_, _*_, _/_, _%_}
-use mathlib.Core.Bool.{Bool, false, cond, _&&_}
-use mathlib.Core.List.{List, [], _∷_, _++_}
+use mathlib.Core.Bool.{false, cond, _&&_}
+use mathlib.Core.List.{List, _++_}
 use lib.ListN.{set}
 use lib.Dec.{ltb, eqb}
 use lib.IntN.{ℤ, pos, negsuc, natAbs, negℤ, _+ℤ_, _*ℤ_}

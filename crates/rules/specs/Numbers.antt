@@ -1,6 +1,6 @@
 -- RULES 17 and 18: each test with its number and place, and the order of the tests of each call. Assumes
 -- nothing.
-use Prim.Native.Nat.{ℕ, _+_, _*_}
+use Prim.Native.Nat.{ℕ}
 use mathlib.Core.Bool.{Bool, cond, not, _&&_, _||_}
 use mathlib.Core.List.{List}
 use lib.ListN.{length}

@@ -5,9 +5,9 @@ use Prim.Native.String.{String}
 use mathlib.Core.Path.{_≡_, refl}
 use mathlib.Core.Bool.{false}
 use mathlib.Core.List.{List, [], _∷_, _++_}
-use lib.ListN.{take, replicate}
+use lib.ListN.{take}
 use lib.IntN.{ℤ, pos, negsuc}
-use lib.Ieee.{Float, fin, round}
+use lib.Ieee.{fin, round}
 use Rattle.rules.specs.declared.SheetWritten.{SheetWritten}
 use Rattle.rules.specs.declared.OrderRead.{OrderRead}
 use Rattle.rules.specs.Tables.{cleared, Lent, lend}

@@ -1,7 +1,7 @@
 -- RULES 19, the plan program: from the bytes of its input to the bytes that it prints, a sheet with its plan
 -- or one line for a refusal. Assumes nothing.
 use Prim.Native.Nat.{ℕ}
-use mathlib.Core.Bool.{Bool, cond}
+use mathlib.Core.Bool.{cond}
 use mathlib.Core.List.{List, _++_}
 use lib.ListN.{take}
 use lib.Dec.{eqb}

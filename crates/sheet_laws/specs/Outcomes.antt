@@ -11,7 +11,7 @@ use native.Mathlib.Omega.{arith}
 use borrow.Author.Tests.{ne-eqb, lt-ltb, le-ltb}
 use Rattle.rules.specs.declared.Fault.{Fault}
 use Rattle.rules.specs.declared.SheetWritten.{SheetWritten}
-use Rattle.rules.specs.Numbers.{fault, noFault, refuseIf, _orElse_, roomFault}
+use Rattle.rules.specs.Numbers.{fault, noFault, _orElse_, roomFault}
 use Rattle.rules.specs.Calls.{Left, left, unless, refusedWritten, doneWritten}
 use Rattle.table_laws.specs.Faults.{refuse-bad, refuse-not, or-first, or-second}
 

@@ -4,7 +4,7 @@ use mathlib.Core.Path.{_≡_}
 use mathlib.Core.List.{List}
 use lib.ListN.{length}
 use Rattle.rules.specs.Tables.{lend}
-use Rattle.rules.specs.Numbers.{networkSizes, labelSizes, sheetSizes}
+use Rattle.rules.specs.Numbers.{labelSizes, sheetSizes}
 use Rattle.table_laws.specs.Faults.{or-clear, size-clear}
 use Rattle.table_laws.specs.Chains.{sizes-clear}
 

@@ -8,7 +8,7 @@ use native.Mathlib.Omega.{arith}
 use borrow.Author.Tests.{lt-ltb, le-ltb}
 use Rattle.rules.specs.declared.Fault.{Fault}
 use Rattle.rules.specs.Writing.{pairs, hasPlan}
-use Rattle.rules.specs.Numbers.{fault, noFault, refuseIf, scan, badStart, startFault}
+use Rattle.rules.specs.Numbers.{fault, noFault, refuseIf, badStart, startFault}
 use Rattle.table_laws.specs.Faults.{refuse-bad, refuse-not, scan-none}
 use Rattle.sheet_tables.specs.Tests.{planFault}
 

@@ -9,7 +9,7 @@ use lib.Dec.{eqb}
 use Rattle.rules.specs.Tables.{Lent}
 use Rattle.rules.specs.Limits.{Network}
 use Rattle.rules.specs.declared.Fault.{Fault}
-use Rattle.rules.specs.Numbers.{refuseIf, outside, countFault, sizeFault, networkFault, networkSizes, lentFault, planSizes}
+use Rattle.rules.specs.Numbers.{refuseIf, outside, countFault, sizeFault, networkSizes, lentFault, planSizes}
 use Rattle.table_laws.specs.Faults.{refuse-clear, or-clear, or-none, size-good, size-clear}
 use Rattle.table_laws.specs.Limits.{clear-of, outside-not, network-within, within-network}
 

@@ -1,7 +1,6 @@
 use Rattle.rules.specs.Numbers.{anchorFault}
 use Rattle.grid.specs.Block.{blockFault}
 use mathlib.Core.Path.{_≡_, sym, ap, _∙_}
-use native.Mathlib.Omega.{arith}
 use lib.IntN.{ℤ}
 use lib.Ieee.{ofBits}
 use mir.Facts.{toZ-ofZ}

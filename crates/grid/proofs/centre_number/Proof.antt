@@ -1,5 +1,4 @@
-use mathlib.Core.Path.{sym, ap, _∙_}
-use lib.IntN.{ℤ}
+use mathlib.Core.Path.{ap, _∙_}
 use mir.Facts.{toZ-ofZ}
 use Rattle.rules.specs.Numbers.{anchorFault}
 use Rattle.grid.proofs.Tests.{centre-anchor, centre-block}

@@ -1,5 +1,4 @@
 use mathlib.Core.List.{[], _∷_}
-use native.Mathlib.Omega.{arith}
 use denote.Ref.{now}
 use Rattle.rules.specs.Text.{then}
 use Rattle.rules.specs.Grid.{orderLine}

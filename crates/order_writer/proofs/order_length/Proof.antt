@@ -1,5 +1,4 @@
 use native.Mathlib.Omega.{arith}
-use lib.ListN.{length}
 use denote.Ref.{now}
 use Rattle.rules.specs.Text.{orderWord}
 use Rattle.sheet_laws.specs.Writes.{count-length, digits-few}

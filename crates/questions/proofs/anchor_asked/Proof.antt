@@ -1,7 +1,5 @@
 use mathlib.Core.Path.{_≡_, sym, ap, _∙_}
-use native.Mathlib.Omega.{arith}
 use denote.Ref.{now}
-use lib.ListN.{length}
 use Rattle.grid.proofs.Anchors.{lowered-on}
 use Rattle.rules.specs.declared.Fault.{Fault}
 use Rattle.rules.specs.Numbers.{anchorFault}
