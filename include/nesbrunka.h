@@ -15,6 +15,12 @@
  *
  * What stands in the cells past n makes no difference, and only nesbrunka_read changes it.
  *
+ * Grid. Filters are ordered by ITU-T G.694.1: a centre lies n steps of 6.25 GHz above 193.1 THz,
+ * or below it where n is negative, and a width is m times 12.5 GHz. A slot is 12.5 GHz wide. The
+ * anchor is the lower edge of slot 1, in steps of 6.25 GHz from 193.1 THz: -1,024 to 1,024. So a
+ * block of width w at start b has n = anchor + 2(b-1) + w and m = w, and its centre is at
+ * 193,100 + 6.25n GHz.
+ *
  * Pointers and lengths. A table is passed as a pointer and then its number of cells (not bytes:
  * 128 for widths), and the call believes both.
  *
@@ -25,8 +31,8 @@
  *     with NESBRUNKA_REFUSED_LIST.
  *   - A table that a call may write must not overlap any other that it is lent. Tables that are
  *     only read may be the same.
- *   - The library keeps no state and allocates nothing, and needs nothing but memset. Calls on
- *     different tables may run at the same time.
+ *   - The library keeps no state and allocates nothing, and needs nothing but memset and
+ *     memcpy. Calls on different tables may run at the same time.
  *
  * Answers. `number` is NESBRUNKA_DONE or the number of a refusal, `place` says where. A refused
  * call changes no table, and its other numbers are 0, but for `short_` beside
@@ -39,9 +45,9 @@
 #include <stddef.h>
 #include <stdint.h>
 
-#define NESBRUNKA_VERSION "0.12.0"
+#define NESBRUNKA_VERSION "0.13.0"
 #define NESBRUNKA_VERSION_MAJOR 0
-#define NESBRUNKA_VERSION_MINOR 12
+#define NESBRUNKA_VERSION_MINOR 13
 #define NESBRUNKA_VERSION_PATCH 0
 
 #ifdef __cplusplus
@@ -65,18 +71,21 @@ enum {
     NESBRUNKA_ROUNDS_MOST = 10000, /* rounds of planning and improving */
     NESBRUNKA_LIST_MOST = 8,       /* paths in a floor's list */
     NESBRUNKA_PAIRS_MOST = 2000,   /* conflicting pairs in a sheet */
-    NESBRUNKA_SHEET_MOST = 45489   /* bytes of the longest sheet */
+    NESBRUNKA_SHEET_MOST = 45489,  /* bytes of the longest sheet */
+    NESBRUNKA_ANCHOR_MOST = 1024,  /* the highest anchor; the lowest is -1,024 */
+    NESBRUNKA_ORDER_MOST = 2314    /* bytes of the longest order sheet */
 };
 
 /* The numbers. In each comment: what is wrong, and what the place is. */
 enum {
     /* nothing is wrong; 0 */
     NESBRUNKA_DONE = 0,
-    /* n outside 1 to 128; over 2,000 pairs; in a sheet a count that cannot be; line, else 0 */
+    /* n outside 1 to 128; over 2,000 pairs; in a sheet a count that cannot be, in an order sheet
+       one that is not n; line, else 0 */
     NESBRUNKA_REFUSED_COUNT = 1,
     /* a table has not its size; 0 */
     NESBRUNKA_REFUSED_SIZE = 2,
-    /* a width outside 1 to 64; path or line */
+    /* a width outside 1 to 64; in an order sheet an m that is not the path's width; path or line */
     NESBRUNKA_REFUSED_WIDTH = 3,
     /* a guard that is neither 0 to 32 nor 255, a diagonal that is not 255; in a sheet, over 32;
        cell or line */
@@ -85,7 +94,7 @@ enum {
     NESBRUNKA_REFUSED_MIRROR = 5,
     /* an order's entry is no path, or comes twice; position; the path asked for is none; 0 */
     NESBRUNKA_REFUSED_ENTRY = 6,
-    /* a start outside 1 to 16,384; path or line */
+    /* a start outside 1 to 16,384; in an order sheet an n that gives none; path or line */
     NESBRUNKA_REFUSED_START = 7,
     /* a conflicting pair is too close, by `short_` slots; the cell above the diagonal */
     NESBRUNKA_REFUSED_CLASH = 8,
@@ -97,7 +106,8 @@ enum {
     NESBRUNKA_REFUSED_FORM = 11,
     /* a label comes twice; the later line or path */
     NESBRUNKA_REFUSED_LABEL_TWICE = 12,
-    /* a guard line names no path or one path twice; a start's line names another path; line */
+    /* a guard line names no path or one path twice; a start's or an order's line names another
+       path; line */
     NESBRUNKA_REFUSED_LABEL_UNKNOWN = 13,
     /* a pair comes twice; line */
     NESBRUNKA_REFUSED_PAIR_TWICE = 14,
@@ -105,7 +115,9 @@ enum {
        conflict; position, else 0 */
     NESBRUNKA_REFUSED_LIST = 15,
     /* the sheet does not fit into the lent text; 0 */
-    NESBRUNKA_REFUSED_ROOM = 16
+    NESBRUNKA_REFUSED_ROOM = 16,
+    /* an anchor outside -1,024 to 1,024; 0 */
+    NESBRUNKA_REFUSED_ANCHOR = 17
 };
 
 typedef struct {
@@ -165,6 +177,11 @@ typedef struct {
     size_t place;
     size_t length; /* the sheet's length in bytes */
 } nesbrunka_sheet_written;
+
+typedef struct {
+    size_t number;
+    size_t place;
+} nesbrunka_ordered;
 
 /* Judges a plan: of each conflicting pair one path lies above the other, with at least their
    guard between. Tests 2, 1, 3, 4, 5, 7, 8 in this order. Writes nothing. Where 8 refuses, the
@@ -265,6 +282,45 @@ nesbrunka_sheet_written nesbrunka_write(size_t n,
                                         const uint8_t *guards, size_t guards_length,
                                         const uint16_t *starts, size_t starts_length,
                                         uint8_t *text, size_t text_length);
+
+/* The centre of a block in GHz, 193,100 + 6.25n, exactly: the double loses nothing. Tests 17, 3 for
+   the width, 7 for the start. Refused, it answers 0.0, which is no block's centre: these are
+   186,706.25 to 404,687.5. The number is asked for beside it, with the same arguments:
+
+       size_t number = nesbrunka_centre_number(anchor, starts[k], widths[k]);
+       if (number != NESBRUNKA_DONE)
+           return refused(number);
+       order(nesbrunka_centre(anchor, starts[k], widths[k]));
+*/
+double nesbrunka_centre(int32_t anchor, size_t start, size_t width);
+
+/* The number of nesbrunka_centre for the same arguments: 17, 3, 7 or NESBRUNKA_DONE. It has no
+   place. */
+size_t nesbrunka_centre_number(int32_t anchor, size_t start, size_t width);
+
+/* Writes an order sheet into a lent text of any length: a line `order N`, then N lines `label n m`
+   in the order of the paths; a negative n has a hyphen before it. Tests 2, 17, 1, 3, 4, 5, 11, 12,
+   7, 16; a start of 0 is 7. That the plan is valid is not tested: judge it first. Leaves the text
+   past the sheet's length unchanged. */
+nesbrunka_sheet_written nesbrunka_order_write(int32_t anchor, size_t n,
+                                              const uint8_t *labels, size_t labels_length,
+                                              const uint16_t *widths, size_t widths_length,
+                                              const uint8_t *guards, size_t guards_length,
+                                              const uint16_t *starts, size_t starts_length,
+                                              uint8_t *text, size_t text_length);
+
+/* Reads an order sheet, of any length, beside its network and anchor, and so gets the starts back.
+   Tests 2, 17, 1, 3, 4, 5, then gives the first line at fault, lines counted from 1: 11 for its
+   form, 1 for a count that is not n, 13 for a label that is not the path's, 3 for an m that is not
+   the path's width, 7 for an n that gives no whole start of 1 to 16,384. The lent labels are only
+   compared, not tested. Writes the first n starts; where it refuses it clears nothing. */
+nesbrunka_ordered nesbrunka_order_read(int32_t anchor,
+                                       const uint8_t *text, size_t text_length,
+                                       size_t n,
+                                       const uint8_t *labels, size_t labels_length,
+                                       const uint16_t *widths, size_t widths_length,
+                                       const uint8_t *guards, size_t guards_length,
+                                       uint16_t *starts, size_t starts_length);
 
 #ifdef __cplusplus
 }
