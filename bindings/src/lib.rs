@@ -20,6 +20,11 @@
 //! tested, and calls other than [`read`] leave them as they are. The library keeps no state and
 //! allocates nothing.
 //!
+//! Filters are ordered by ITU-T G.694.1: a centre lies n steps of 6.25 GHz above 193.1 THz, or
+//! below it where n is negative, and a width is m times 12.5 GHz. A slot is 12.5 GHz wide. The
+//! anchor is the lower edge of slot 1, in steps of 6.25 GHz from 193.1 THz. So a block of width w
+//! at start b has n = anchor + 2(b-1) + w and m = w, and its centre is at 193,100 + 6.25n GHz.
+//!
 //! ```
 //! use nesbrunka::{plan, CELLS, DONE, NO_CONFLICT, PATHS};
 //!
@@ -40,7 +45,8 @@
 #[rustfmt::skip]
 pub mod sys;
 
-pub use sys::{Floored, Judged, Packed, Planned, Pressed, Reason, SheetRead, SheetWritten, Sided};
+pub use sys::{Floored, Judged, Ordered, Packed, Planned, Pressed, Reason};
+pub use sys::{SheetRead, SheetWritten, Sided};
 
 /// Cells of widths, of starts, of an order and of a chain; the most paths.
 pub const PATHS: usize = 128;
@@ -66,14 +72,20 @@ pub const LIST_MOST: usize = 8;
 pub const PAIRS_MOST: usize = 2000;
 /// Bytes of the longest sheet.
 pub const SHEET_MOST: usize = 45489;
+/// The highest anchor; the lowest is -1,024.
+pub const ANCHOR_MOST: i32 = 1024;
+/// Bytes of the longest order sheet.
+pub const ORDER_MOST: usize = 2314;
 
 /// Done. Place 0.
 pub const DONE: usize = 0;
-/// n outside 1 to 128; over 2,000 pairs; in a sheet a count that cannot be. Place: the line, else 0.
+/// n outside 1 to 128; over 2,000 pairs; in a sheet a count that cannot be, in an order sheet one
+/// that is not n. Place: the line, else 0.
 pub const REFUSED_COUNT: usize = 1;
 /// A table has not its size. Place 0.
 pub const REFUSED_SIZE: usize = 2;
-/// A width outside 1 to 64. Place: the path or line.
+/// A width outside 1 to 64; in an order sheet an m that is not the path's width. Place: the path or
+/// line.
 pub const REFUSED_WIDTH: usize = 3;
 /// A guard that is neither 0 to 32 nor 255, a diagonal that is not 255; in a sheet, over 32. Place:
 /// the cell or line.
@@ -82,7 +94,7 @@ pub const REFUSED_GUARD: usize = 4;
 pub const REFUSED_MIRROR: usize = 5;
 /// An order's entry is no path, or comes twice. Place: its position.
 pub const REFUSED_ENTRY: usize = 6;
-/// A start outside 1 to 16,384. Place: the path or line.
+/// A start outside 1 to 16,384; in an order sheet an n that gives none. Place: the path or line.
 pub const REFUSED_START: usize = 7;
 /// A conflicting pair is too close. Place: its cell above the diagonal. `short` says by how many
 /// slots: the upper path of the two moved up by so many is clear of the lower.
@@ -95,7 +107,8 @@ pub const REFUSED_ROUNDS: usize = 10;
 pub const REFUSED_FORM: usize = 11;
 /// A label comes twice. Place: the later line or path.
 pub const REFUSED_LABEL_TWICE: usize = 12;
-/// A guard line names no path or one path twice; a start's line names another path. Place: the line.
+/// A guard line names no path or one path twice; a start's or an order's line names another path.
+/// Place: the line.
 pub const REFUSED_LABEL_UNKNOWN: usize = 13;
 /// A pair comes twice. Place: the line.
 pub const REFUSED_PAIR_TWICE: usize = 14;
@@ -104,6 +117,8 @@ pub const REFUSED_PAIR_TWICE: usize = 14;
 pub const REFUSED_LIST: usize = 15;
 /// The sheet does not fit into the lent text. Place 0.
 pub const REFUSED_ROOM: usize = 16;
+/// An anchor outside -1,024 to 1,024. Place 0.
+pub const REFUSED_ANCHOR: usize = 17;
 
 /// Judges a plan: of each conflicting pair one path lies above the other, with at least their guard
 /// between. Where it is refused by 8, `short` says how many slots the pair lacks.
@@ -202,8 +217,8 @@ pub fn two_sides(n: usize, widths: &[u16], guards: &[u8], order: &mut [u8]) -> S
     unsafe { sys::nesbrunka_two_sides(n, w, widths.len(), g, guards.len(), o, order.len()) }
 }
 
-/// Plans: where there are two sides the best plan outright, else the greedy order, improved. Writes the first n entries of the order and the first n starts; what stood there is
-/// not tested.
+/// Plans: where there are two sides the best plan outright, else the greedy order, improved. Writes
+/// the first n entries of the order and the first n starts; what stood there is not tested.
 ///
 /// Tests in this order: 2, 1, 3, 4, 5, 10.
 #[inline]
@@ -324,6 +339,85 @@ pub fn write(
             starts.len(),
             t,
             text.len(),
+        )
+    }
+}
+
+/// The centre of a block in GHz, 193,100 + 6.25n, exactly: nothing is lost. Where it is refused it
+/// is 0.0, which is no block's centre; [`centre_number`] says why.
+///
+/// Tests in this order: 17, 3 for the width, 7 for the start.
+#[inline]
+pub fn centre(anchor: i32, start: usize, width: usize) -> f64 {
+    // SAFETY: no table is lent.
+    unsafe { sys::nesbrunka_centre(anchor, start, width) }
+}
+
+/// The number of [`centre`] for the same arguments: [`DONE`], or 17, 3 or 7. It has no place.
+#[inline]
+pub fn centre_number(anchor: i32, start: usize, width: usize) -> usize {
+    // SAFETY: no table is lent.
+    unsafe { sys::nesbrunka_centre_number(anchor, start, width) }
+}
+
+/// Writes an order sheet into the front of a text of any length: a line `order N`, then N lines
+/// `label n m` in the order of the paths. That the plan is valid is not tested: [`judge`] it first.
+///
+/// Tests in this order: 2, 17, 1, 3, 4, 5, 11, 12, 7, 16. A start of 0 is 7.
+#[inline]
+pub fn order_write(
+    anchor: i32, n: usize, labels: &[u8], widths: &[u16], guards: &[u8], starts: &[u16],
+    text: &mut [u8],
+) -> SheetWritten {
+    let (l, w, g) = (labels.as_ptr(), widths.as_ptr(), guards.as_ptr());
+    let (s, t) = (starts.as_ptr(), text.as_mut_ptr());
+    // SAFETY: each pointer and length are those of one slice; the one written is borrowed alone.
+    unsafe {
+        sys::nesbrunka_order_write(
+            anchor,
+            n,
+            l,
+            labels.len(),
+            w,
+            widths.len(),
+            g,
+            guards.len(),
+            s,
+            starts.len(),
+            t,
+            text.len(),
+        )
+    }
+}
+
+/// Reads an order sheet of any length, beside its network and anchor, into the first n starts.
+/// Where it refuses, the starts are left as they were.
+///
+/// Tests 2, 17, 1, 3, 4, 5 in this order, then gives the first line at fault: 11 for its form, 1
+/// for a count that is not n, 13 for a label that is not the path's, 3 for an m that is not the
+/// path's width, 7 for an n that gives no whole start of 1 to 16,384.
+#[inline]
+pub fn order_read(
+    anchor: i32, text: &[u8], n: usize, labels: &[u8], widths: &[u16], guards: &[u8],
+    starts: &mut [u16],
+) -> Ordered {
+    let (t, l) = (text.as_ptr(), labels.as_ptr());
+    let (w, g, s) = (widths.as_ptr(), guards.as_ptr(), starts.as_mut_ptr());
+    // SAFETY: each pointer and length are those of one slice; the one written is borrowed alone.
+    unsafe {
+        sys::nesbrunka_order_read(
+            anchor,
+            t,
+            text.len(),
+            n,
+            l,
+            labels.len(),
+            w,
+            widths.len(),
+            g,
+            guards.len(),
+            s,
+            starts.len(),
         )
     }
 }

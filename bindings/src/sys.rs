@@ -111,7 +111,7 @@ pub struct SheetRead {
     pub n: usize,
 }
 
-/// What the writer answers, beside the text.
+/// What the writers answer, beside the text.
 #[repr(C)]
 #[derive(Clone, Copy, Debug, PartialEq, Eq)]
 pub struct SheetWritten {
@@ -235,13 +235,13 @@ extern "C" {
         text: *mut u8, text_length: usize,
     ) -> SheetWritten;
 
-    /// The centre of a block in GHz; 0.0 when refused.
+    /// See [`crate::centre`].
     pub fn nesbrunka_centre(anchor: i32, start: usize, width: usize) -> f64;
 
-    /// The number of the call for the centre: 17, 3, 7 or 0.
+    /// See [`crate::centre_number`].
     pub fn nesbrunka_centre_number(anchor: i32, start: usize, width: usize) -> usize;
 
-    /// Writes an order sheet.
+    /// See [`crate::order_write`].
     pub fn nesbrunka_order_write(
         anchor: i32,
         n: usize,
@@ -252,7 +252,7 @@ extern "C" {
         text: *mut u8, text_length: usize,
     ) -> SheetWritten;
 
-    /// Reads an order sheet beside its network.
+    /// See [`crate::order_read`].
     pub fn nesbrunka_order_read(
         anchor: i32,
         text: *const u8, text_length: usize,

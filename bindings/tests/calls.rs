@@ -5,6 +5,8 @@
 use nesbrunka::*;
 
 const WORKED: &[u8] = b"paths 3\n0417 2\n417 4\nA9 3\nguards 2\n0417 417 1\n417 A9 2\n";
+/// What is ordered for its plan, the starts 1, 6, 1, from the anchor -6.
+const ORDER: &[u8] = b"order 3\n0417 -4 2\n417 8 4\nA9 -3 3\n";
 
 fn network() -> ([u16; PATHS], [u8; CELLS]) {
     let (mut widths, mut guards) = ([0; PATHS], [NO_CONFLICT; CELLS]);
@@ -167,10 +169,81 @@ fn reading_and_writing() {
     assert_eq!((labels, guards), ([0; LABELS], [NO_CONFLICT; CELLS]));
 }
 
+/// The tables of the worked example and its plan.
+fn worked() -> ([u8; LABELS], [u16; PATHS], [u8; CELLS], [u16; PATHS]) {
+    let (mut labels, mut widths) = ([1; LABELS], [1; PATHS]);
+    let (mut guards, mut starts) = ([1; CELLS], [1; PATHS]);
+    read(WORKED, &mut labels, &mut widths, &mut guards, &mut starts);
+    (labels, widths, guards, table(&[1, 6, 1], 9))
+}
+
+#[test]
+fn ordering() {
+    let (labels, widths, guards, starts) = worked();
+    let mut text = [b'x'; ORDER.len() + 1];
+    let written = order_write(-6, 3, &labels, &widths, &guards, &starts, &mut text);
+    assert_eq!(written, SheetWritten { number: DONE, place: 0, length: ORDER.len() });
+    assert_eq!((&text[..ORDER.len()], text[ORDER.len()]), (ORDER, b'x'));
+    let mut found = [7; PATHS];
+    let ordered = order_read(-6, ORDER, 3, &labels, &widths, &guards, &mut found);
+    assert_eq!(ordered, Ordered { number: DONE, place: 0 });
+    assert_eq!(found, table(&[1, 6, 1], 7));
+}
+
+#[test]
+fn ordering_refused() {
+    let (labels, widths, guards, starts) = worked();
+    let mut text = [b'x'; ORDER_MOST];
+    let mut write = |anchor, starts: &[u16], room| {
+        let text = &mut text[..room];
+        let written = order_write(anchor, 3, &labels, &widths, &guards, starts, text);
+        assert!(written.length == 0 && text.iter().all(|&byte| byte == b'x'));
+        (written.number, written.place)
+    };
+    assert_eq!(write(ANCHOR_MOST + 1, &starts, 0), (REFUSED_ANCHOR, 0));
+    assert_eq!(write(-ANCHOR_MOST, &table(&[1, 0, 1], 9), 0), (REFUSED_START, 1));
+    assert_eq!(write(-6, &starts, ORDER.len() - 1), (REFUSED_ROOM, 0));
+    let read = |anchor, sheet: &[u8]| {
+        let mut found = [7; PATHS];
+        let ordered = order_read(anchor, sheet, 3, &labels, &widths, &guards, &mut found);
+        assert_eq!(found, [7; PATHS]);
+        (ordered.number, ordered.place)
+    };
+    assert_eq!(read(-ANCHOR_MOST - 1, b""), (REFUSED_ANCHOR, 0));
+    assert_eq!(read(-6, b"order 4\n"), (REFUSED_COUNT, 1));
+    assert_eq!(read(-6, b"order 3\n0417 -4 2\n417 -0 4\n"), (REFUSED_FORM, 3));
+    assert_eq!(read(-6, b"order 3\n0417 -4 2\nA9 9 5\n"), (REFUSED_LABEL_UNKNOWN, 3));
+    assert_eq!(read(-6, b"order 3\n0417 -4 2\n417 9 5\n"), (REFUSED_WIDTH, 3));
+    assert_eq!(read(-6, b"order 3\n0417 -4 2\n417 9 4\n"), (REFUSED_START, 3));
+}
+
+#[test]
+fn centring() {
+    // The block of 417 in the worked example: n is 8.
+    assert_eq!((centre(-6, 6, 4), centre_number(-6, 6, 4)), (193150.0, DONE));
+    assert_eq!(centre(0, 1, 1), 193106.25);
+    assert_eq!(centre(-ANCHOR_MOST, 1, 1), 186706.25);
+    assert_eq!(centre(ANCHOR_MOST, START_MOST.into(), WIDTH_MOST.into()), 404687.5);
+    let refused = [
+        (ANCHOR_MOST + 1, 0, 0, REFUSED_ANCHOR),
+        (i32::MIN, 1, 1, REFUSED_ANCHOR),
+        (0, 0, 0, REFUSED_WIDTH),
+        (0, 1, 65, REFUSED_WIDTH),
+        (0, 0, 1, REFUSED_START),
+        (0, 16385, 64, REFUSED_START),
+    ];
+    for (anchor, start, width, number) in refused {
+        assert_eq!(centre_number(anchor, start, width), number);
+        assert_eq!(centre(anchor, start, width).to_bits(), 0.0f64.to_bits());
+    }
+}
+
 #[test]
 fn empty_slices_are_refused() {
     let (widths, guards) = network();
     assert_eq!(judge(3, &widths, &guards, &[]).number, REFUSED_SIZE);
     assert_eq!(pack(3, &[], &[], &[], &mut []).number, REFUSED_SIZE);
     assert_eq!(read(WORKED, &mut [], &mut [], &mut [], &mut []).number, REFUSED_SIZE);
+    assert_eq!(order_write(2000, 3, &[], &[], &[], &[], &mut []).number, REFUSED_SIZE);
+    assert_eq!(order_read(2000, &[], 3, &[], &[], &[], &mut []).number, REFUSED_SIZE);
 }
