@@ -237,6 +237,7 @@ function wrong_place(s,    l) {
     if (kind == "left over") return is_blank(s) ? "a blank line is left over" : "this line is left over"
     if (is_blank(s)) return "the line is blank"
     if (kind == "paths N" && s ~ /^refused [0-9]+ line [0-9]+$/) return "this is no sheet, but the refusal of one"
+    if (kind == "paths N" && s ~ /^order [0-9]+$/) return "this is an order sheet, and no sheet of paths"
     if (kind in word && begins(tolower(s), word[kind])) return ""
     if (kind == "paths N" && is_path(s)) return "the line 'paths N' is missing"
     if (kind == "path" && begins(s, "guards")) return says("path", paths) "line " line " already begins the guards"
