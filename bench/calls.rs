@@ -12,8 +12,8 @@ mod sheet;
 #[allow(dead_code)]
 mod turns;
 
-use nesbrunka::{LIST_MOST, PATHS, SHEET_MOST};
-use networks::{longest, pairs, Network, Random, PERCENTS, SIZES};
+use nesbrunka::{LIST_MOST, ORDER_MOST, PATHS, SHEET_MOST};
+use networks::{blocks, longest, ordered, pairs, Network, Random, PERCENTS, SIZES};
 use rules::Starts;
 use std::hint::black_box;
 use std::io::BufRead;
@@ -70,6 +70,10 @@ fn cases() -> Vec<Case> {
     }
     cases.push(floor_of_eight(random));
     cases.extend(sheets(random));
+    for n in SIZES {
+        cases.extend(order_sheets(n, random));
+    }
+    cases.push(centres(random));
     cases
 }
 
@@ -105,4 +109,31 @@ fn sheets(random: &mut Random) -> [Case; 2] {
     let write = Box::new(move || done(library::write(black_box(&t), &mut text)));
     [("read", read as Box<dyn FnMut()>), ("write", write)]
         .map(|(name, call)| Case { name: format!("{name}, the longest sheet"), call })
+}
+
+/// Reading and writing an order sheet.
+fn order_sheets(n: usize, random: &mut Random) -> [Case; 2] {
+    let t = Rc::new(ordered(n, random));
+    let mut text = vec![0; ORDER_MOST];
+    let length = library::order_write(-6, &t, &mut text);
+    text.truncate(length);
+    let (sheet, lent, mut starts) = (text.clone(), Rc::clone(&t), [0; PATHS]);
+    let read = Box::new(move || {
+        done(library::order_read(-6, black_box(&sheet), black_box(&lent), &mut starts))
+    });
+    let write = Box::new(move || done(library::order_write(-6, black_box(&t), &mut text)));
+    [("order_read", read as Box<dyn FnMut()>), ("order_write", write)]
+        .map(|(name, call)| Case { name: format!("{name}, {n} paths"), call })
+}
+
+/// The centres of some blocks, and their numbers.
+fn centres(random: &mut Random) -> Case {
+    let blocks = blocks(64, random);
+    let call = Box::new(move || {
+        for &(anchor, start, width) in black_box(&blocks) {
+            done(nesbrunka::centre_number(anchor, start, width));
+            done(nesbrunka::centre(anchor, start, width));
+        }
+    });
+    Case { name: "centre and centre_number, 64 blocks".to_string(), call }
 }

@@ -74,3 +74,15 @@ pub fn write(t: &Tables, text: &mut [u8]) -> usize {
     assert!(r.number == DONE, "write: refused {} at {}", r.number, r.place);
     r.length
 }
+
+pub fn order_write(anchor: i32, t: &Tables, text: &mut [u8]) -> usize {
+    let (widths, guards) = (&t.widths, &t.guards);
+    let r = nesbrunka::order_write(anchor, t.n, &t.labels, widths, guards, &t.starts, text);
+    assert!(r.number == DONE, "order_write: refused {} at {}", r.number, r.place);
+    r.length
+}
+
+pub fn order_read(anchor: i32, text: &[u8], t: &Tables, starts: &mut Starts) {
+    let r = nesbrunka::order_read(anchor, text, t.n, &t.labels, &t.widths, &t.guards, starts);
+    assert!(r.number == DONE, "order_read: refused {} at {}", r.number, r.place);
+}

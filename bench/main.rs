@@ -5,12 +5,13 @@
 #[allow(dead_code)]
 mod library;
 mod networks;
+mod order;
 mod rules;
 mod sheet;
 mod turns;
 
-use nesbrunka::{CELLS, NO_CONFLICT, PAIRS_MOST, PATHS, SHEET_MOST};
-use networks::{longest, pairs, Network, Random, PERCENTS, SIZES};
+use nesbrunka::{CELLS, NO_CONFLICT, ORDER_MOST, PAIRS_MOST, PATHS, SHEET_MOST};
+use networks::{blocks, longest, ordered, pairs, Block, Network, Random, PERCENTS, SIZES};
 use rules::{all_orders, by_sets, look_back, push, Order, Packer, Starts, Walker};
 use std::hint::black_box;
 use std::time::Instant;
@@ -23,6 +24,10 @@ extern "C" {
         guards_length: usize, order: *const u8, order_length: usize, starts: *mut u16,
         starts_length: usize,
     ) -> usize;
+
+    // centre.c
+    fn plain_centre(anchor: i32, start: usize, width: usize) -> f64;
+    fn plain_centre_number(anchor: i32, start: usize, width: usize) -> usize;
 }
 
 fn engine(net: &Network, order: &Order, starts: &mut Starts) -> usize {
@@ -231,6 +236,90 @@ fn sheets(random: &mut Random) -> [f64; 2] {
     [reading, ratios(101, [write, plain_write])[1]]
 }
 
+/// The order sheets of so many paths from some anchors: writing and reading them.
+fn ordering(n: usize, random: &mut Random) -> [f64; 2] {
+    const ANCHORS: [i32; 4] = [-1024, -6, 0, 1024];
+    let t = ordered(n, random);
+    let (mut plain, mut text) = (Vec::with_capacity(ORDER_MOST), vec![0; ORDER_MOST]);
+    let sheets = ANCHORS.map(|anchor| {
+        let (mut one, mut two) = ([0; PATHS], [0; PATHS]);
+        let length = library::order_write(anchor, &t, &mut text);
+        assert!(order::write(anchor, &t, &mut plain) == Ok(length) && text[..length] == plain);
+        library::order_read(anchor, &plain, &t, &mut one);
+        assert!(order::read(anchor, &plain, &t, &mut two) == Ok(()) && one == two);
+        assert!(one == t.starts, "the starts differ");
+        (anchor, plain.clone())
+    });
+    // Each work takes so long that a clock can tell.
+    let each = || (0..1 + 512 / n).flat_map(|_| &sheets);
+    let write = &mut || {
+        for (anchor, _) in each() {
+            done(library::order_write(*anchor, black_box(&t), black_box(&mut text)));
+        }
+    };
+    let plain_write = &mut || {
+        for (anchor, _) in each() {
+            done(order::write(*anchor, black_box(&t), black_box(&mut plain)));
+        }
+    };
+    let writing = ratios(101, [write, plain_write])[1];
+    let (mut one, mut two) = ([0; PATHS], [0; PATHS]);
+    let read = &mut || {
+        for (anchor, sheet) in each() {
+            done(library::order_read(*anchor, black_box(sheet), black_box(&t), &mut one));
+        }
+    };
+    let plain_read = &mut || {
+        for (anchor, sheet) in each() {
+            done(order::read(*anchor, black_box(sheet), black_box(&t), black_box(&mut two)));
+        }
+    };
+    [writing, ratios(101, [read, plain_read])[1]]
+}
+
+/// A call for each block, many times. Nothing but a sum is kept of the answers, so that the calls
+/// alone are measured.
+fn asked(blocks: &[Block], call: impl Fn(Block) -> u64) {
+    for _ in 0..16 {
+        done(black_box(blocks).iter().fold(0, |sum: u64, &block| sum.wrapping_add(call(block))));
+    }
+}
+
+/// The centres of blocks and their numbers, by plain C.
+fn centring(random: &mut Random) -> [f64; 2] {
+    let centre = |(anchor, start, width): Block| nesbrunka::centre(anchor, start, width).to_bits();
+    let number = |(anchor, start, width)| nesbrunka::centre_number(anchor, start, width) as u64;
+    // SAFETY: no table is lent.
+    let plain = |(anchor, start, width)| unsafe { plain_centre(anchor, start, width) }.to_bits();
+    let plain_number =
+        |(anchor, start, width)| unsafe { plain_centre_number(anchor, start, width) } as u64;
+    let blocks = blocks(1024, random);
+    for block in blocks.iter().copied().chain(REFUSED) {
+        assert!(centre(block) == plain(block) && number(block) == plain_number(block));
+    }
+    let called = &mut || asked(&blocks, centre);
+    let found = ratios(101, [called, &mut || asked(&blocks, plain)])[1];
+    let called = &mut || asked(&blocks, number);
+    [found, ratios(101, [called, &mut || asked(&blocks, plain_number)])[1]]
+}
+
+/// Blocks that are refused.
+const REFUSED: [Block; 6] =
+    [(-1025, 1, 1), (1025, 0, 0), (0, 0, 0), (0, 1, 65), (0, 0, 64), (0, 16385, 1)];
+
+/// Prints the table of order sheets and the centre; the most that each of them takes of plain code.
+fn orders(random: &mut Random) -> [f64; 2] {
+    println!("| order sheet, with its tests / plain Rust | n = 7 | n = 40 | n = 128 |");
+    println!("|---|---|---|---|");
+    let found = SIZES.map(|n| ordering(n, random));
+    for (row, title) in ["writing", "reading"].iter().enumerate() {
+        println!("| {title} | {} |", found.map(|m| format!("{:.2}", m[row])).join(" | "));
+    }
+    let [centre, number] = centring(random);
+    println!("\nThe centre of a block: {centre:.2}, its number: {number:.2} of plain C.\n");
+    [found.iter().flatten().copied().fold(0.0, f64::max), centre.max(number)]
+}
+
 /// A dense sheet has all pairs, up to the most that a sheet holds; a sparse one a fifth of them.
 fn dense(n: usize) -> usize {
     pairs(n, 100).min(PAIRS_MOST)
@@ -289,6 +378,7 @@ fn main() {
     let [reading, writing] = sheets(random);
     println!("\nThe longest sheet: reading {reading:.2}, writing {writing:.2} of plain Rust.\n");
     let floor = floors(random);
+    let [order, centre] = orders(random);
     let half = found[2][1];
     goal("pack, 128 paths, 50 %", 0.25, half[1]);
     goal("pack without its tests, 128 paths, 50 %", 1.2, half[2]);
@@ -299,5 +389,7 @@ fn main() {
     goal("the floor of eight paths by all orders, the worst of all", 0.2, floor);
     goal("the plan program, dense sheet of 128 paths", 0.25, dense_found[2]);
     goal("reading and writing the longest sheet", 1.5, reading.max(writing));
+    goal("reading and writing an order sheet, the worst of all", 1.5, order);
+    goal("the centre and its number by plain C, the worse of both", 2.0, centre);
     goal("planning a line of 128 paths / 1,000 rounds at 50 %", 0.05, planning(random));
 }

@@ -76,6 +76,25 @@ impl Network {
     }
 }
 
+/// The tables of a network with half of its pairs in conflict, and any start for each path.
+pub fn ordered(n: usize, random: &mut Random) -> Tables {
+    let mut t = Network::new(n, pairs(n, 50), random).tables();
+    t.starts[..n].fill_with(|| 1 + random.below(16384) as u16);
+    t
+}
+
+/// An anchor, a start and a width.
+pub type Block = (i32, usize, usize);
+
+/// So many blocks, none of them refused.
+pub fn blocks(count: usize, random: &mut Random) -> Vec<Block> {
+    let mut block = || {
+        let anchor = random.below(2049) as i32 - 1024;
+        (anchor, 1 + random.below(16384), 1 + random.below(64))
+    };
+    (0..count).map(|_| block()).collect()
+}
+
 fn any_order(n: usize, random: &mut Random) -> [u8; PATHS] {
     let mut order = [0; PATHS];
     for (k, entry) in order[..n].iter_mut().enumerate() {

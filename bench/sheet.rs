@@ -15,7 +15,7 @@ impl Tables {
         Tables { n: 0, labels: [0; 1024], widths: [0; 128], guards: [255; 16384], starts: [0; 128] }
     }
 
-    fn label(&self, k: usize) -> &[u8] {
+    pub fn label(&self, k: usize) -> &[u8] {
         let row = &self.labels[8 * k..8 * k + 8];
         &row[..row.iter().position(|&b| b == 0).unwrap_or(8)]
     }
@@ -25,16 +25,16 @@ impl Tables {
     }
 }
 
-struct Reader<'a> {
-    text: &'a [u8],
-    line: usize,
+pub struct Reader<'a> {
+    pub text: &'a [u8],
+    pub line: usize,
 }
 
 pub type Refused = (usize, usize);
 
 impl<'a> Reader<'a> {
     // The fields of the next line, or 11 where its form is wrong.
-    fn fields<const F: usize>(&mut self) -> Result<[&'a [u8]; F], Refused> {
+    pub fn fields<const F: usize>(&mut self) -> Result<[&'a [u8]; F], Refused> {
         self.line += 1;
         let end = self.text.iter().position(|&b| b == b'\n').ok_or((11, self.line))?;
         let (line, rest) = (&self.text[..end], &self.text[end + 1..]);
@@ -50,7 +50,7 @@ impl<'a> Reader<'a> {
         Ok(fields)
     }
 
-    fn label(&self, field: &'a [u8]) -> Result<&'a [u8], Refused> {
+    pub fn label(&self, field: &'a [u8]) -> Result<&'a [u8], Refused> {
         let right = |b: &u8| b.is_ascii_digit() || b.is_ascii_uppercase() || *b == b'-';
         if (1..=8).contains(&field.len()) && field.iter().all(right) {
             Ok(field)
@@ -59,7 +59,7 @@ impl<'a> Reader<'a> {
         }
     }
 
-    fn number(&self, field: &[u8]) -> Result<usize, Refused> {
+    pub fn number(&self, field: &[u8]) -> Result<usize, Refused> {
         let right = (1..=5).contains(&field.len())
             && field.iter().all(u8::is_ascii_digit)
             && (field.len() == 1 || field[0] != b'0');
@@ -70,7 +70,7 @@ impl<'a> Reader<'a> {
         }
     }
 
-    fn count(&mut self, word: &[u8]) -> Result<usize, Refused> {
+    pub fn count(&mut self, word: &[u8]) -> Result<usize, Refused> {
         let [w, c] = self.fields()?;
         if w != word {
             return Err((11, self.line));
@@ -141,14 +141,14 @@ pub fn read(text: &[u8]) -> Result<Tables, Refused> {
     Ok(t)
 }
 
-fn put_number(text: &mut Vec<u8>, v: usize) {
+pub fn put_number(text: &mut Vec<u8>, v: usize) {
     if v >= 10 {
         put_number(text, v / 10);
     }
     text.push(b'0' + (v % 10) as u8);
 }
 
-fn put_line(text: &mut Vec<u8>, words: &[&[u8]], v: usize) {
+pub fn put_line(text: &mut Vec<u8>, words: &[&[u8]], v: usize) {
     for w in words {
         text.extend_from_slice(w);
         text.push(b' ');
@@ -157,8 +157,8 @@ fn put_line(text: &mut Vec<u8>, words: &[&[u8]], v: usize) {
     text.push(b'\n');
 }
 
-// The writer's tests in their order: 1, 3, 4, 5, 11, 12, 1 for pairs, 7.
-fn test(t: &Tables) -> Result<(), Refused> {
+// The tests of a network in their order: 1, 3, 4, 5.
+pub fn test_network(t: &Tables) -> Result<(), Refused> {
     let n = t.n;
     if !(1..=128).contains(&n) {
         return Err((1, 0));
@@ -181,6 +181,13 @@ fn test(t: &Tables) -> Result<(), Refused> {
             }
         }
     }
+    Ok(())
+}
+
+// The writer's tests in their order: those, 11, 12, 1 for pairs, 7.
+fn test(t: &Tables) -> Result<(), Refused> {
+    test_network(t)?;
+    let n = t.n;
     let right = |b: &u8| b.is_ascii_digit() || b.is_ascii_uppercase() || *b == b'-';
     for k in 0..n {
         let label = t.label(k);
