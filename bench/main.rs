@@ -1,5 +1,5 @@
-//! The speed table: the library against plain Rust of the same rules, from one run. Only ratios are
-//! printed, as times differ from machine to machine.
+//! The speed table: the library against plain Rust of the same rules, for the centre against plain
+//! C, from one run. Only ratios are printed, as times differ from machine to machine.
 
 // Some calls are measured by calls.rs alone.
 #[allow(dead_code)]
