@@ -9,17 +9,17 @@
 #include "nesbrunka.h"
 #include "sheet.h"
 
-/* Whether a word is an anchor, and which one: -1,024 to 1,024. */
+/* Whether a word is an anchor, and which one: -1,024 to 1,024. It has one spelling, as in an order
+   sheet: +5, 05 and -0 are none. */
 static int is_anchor(const char *word, int32_t *anchor)
 {
-    char *end;
-    long value = strtol(word, &end, 10);
-    if (end == word || *end != 0)
-        return 0;
+    char spelled[24];
+    long value = strtol(word, NULL, 10);
     if (value < -NESBRUNKA_ANCHOR_MOST || value > NESBRUNKA_ANCHOR_MOST)
         return 0;
+    snprintf(spelled, sizeof spelled, "%ld", value);
     *anchor = (int32_t)value;
-    return 1;
+    return strcmp(spelled, word) == 0;
 }
 
 /* Writes the order sheet into the text and, before anyone orders by it, reads it back: the starts

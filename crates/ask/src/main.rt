@@ -1,6 +1,6 @@
-// One run of the ask program (RULES 26): `ask why LABEL` says why a path stands where it stands, and `ask judge`
-// whether the plan is valid. The sheet with its plan comes from standard input, and the answer, in lines that can
-// be read aloud, goes to standard output.
+// One run of the ask program (RULES 26): `ask why LABEL` says why a path stands where it stands, `ask judge` whether
+// the plan is valid, and `ask order ANCHOR` prints its order sheet. The sheet with its plan comes from standard
+// input, and the answer, in lines that can be read aloud, goes to standard output.
 //
 // From the arguments and the bytes read to the bytes printed all is proved (`asking::answer`). `main` is calls
 // alone: that it lends `answer` what the arguments and standard input held, and writes what `answer` made, is
@@ -57,8 +57,8 @@ fn arguments() -> usize {
     all - 1
 }
 
-// An argument that is missing, or longer than its buffer, stands as an empty one: that is no word and no label
-// either, so the answer is the same.
+// An argument that is missing, or longer than its buffer, stands as an empty one: that is no word, no label and no
+// anchor either, so the answer is the same.
 fn main() {
     let mut first = io::buffer();
     let mut second = io::buffer();

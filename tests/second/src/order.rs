@@ -1,4 +1,4 @@
-//! The order sheet for filters on the ITU grid (request L4): the centre of a block, writing the
+//! The order sheet for filters on the ITU grid (RULES 27): the centre of a block, writing the
 //! sheet, and reading it back beside its network.
 
 use crate::calls::{self, refuse_at, sizes, Answer, Refusal};

@@ -1,4 +1,4 @@
-//! Self-checks of the order sheet that need no library: what request L4 says, worked by hand, on
+//! Self-checks of the order sheet that need no library: what RULES 27 says, worked by hand, on
 //! this program's own implementation.
 
 use crate::calls::Answer;

@@ -1,4 +1,4 @@
-//! The centre of a block and its number (L4): all anchors, all starts and all widths, one past each
+//! The centre of a block and its number (RULES 27): all anchors, all starts and all widths, one past each
 //! end, and numbers as far away as they can be. Each double is held against whole numbers.
 
 use crate::compare::{self, Call, Case, Tally};

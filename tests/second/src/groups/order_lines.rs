@@ -1,4 +1,4 @@
-//! Reading order sheets (L4): damage of every kind, every n that a line can have, every set of
+//! Reading order sheets (RULES 27): damage of every kind, every n that a line can have, every set of
 //! faults in the lines and of the refusals before them, small sheets with every byte changed.
 
 use crate::calls::Answer;

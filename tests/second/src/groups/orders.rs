@@ -1,4 +1,4 @@
-//! Order sheets (L4): written, read back beside their network and written again; all small ones;
+//! Order sheets (RULES 27): written, read back beside their network and written again; all small ones;
 //! rooms of every length; every set of the writer's refusals. What else is read is `order_lines`.
 
 use crate::compare::{self, Call, Case, Tally};
