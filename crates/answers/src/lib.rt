@@ -1,4 +1,5 @@
 // An inner crate of the ask program (RULES 26): the answers on a sheet that was read.
+use questions::Topic;
 ghost use mathlib.Core.Path.{_≡_};
 ghost use Prim.Native.Nat.{_≤_, _<_};
 ghost use lib.ListN.{length};
@@ -6,10 +7,11 @@ ghost use Rattle.rules.specs.Tables.{lend};
 ghost use Rattle.rules.specs.Asking.{whyText, judgeText, orderedText};
 ghost use Rattle.sheet_laws.specs.Sizes.{Sized};
 ghost use Rattle.sheet_laws.specs.Grid.{lowered};
+ghost use Rattle.questions.specs.Asks.{topicText, Fit};
 ghost use Rattle.spelling.specs.Says.{Wrote};
 
 // Why the path of a name stands where it stands, of a sheet that was read.
-pub fn why_text(
+fn why_text(
     name: &[u8],
     n: usize,
     labels: &[u8],
@@ -36,7 +38,7 @@ pub fn why_text(
 }
 
 // Whether the plan of a sheet that was read is valid.
-pub fn judge_text(
+fn judge_text(
     n: usize,
     labels: &[u8],
     widths: &[u16],
@@ -58,7 +60,7 @@ pub fn judge_text(
 }
 
 // The order sheet of a sheet that was read, from an anchor that is counted from -100,000. Only a valid plan is ordered.
-pub fn order_text(
+fn order_text(
     anchor: usize,
     n: usize,
     labels: &[u8],
@@ -89,4 +91,29 @@ pub fn order_text(
     );
     let m = written.length;
     spelling::put_word(out, 0, &sheet[..m])
+}
+
+// What is asked of a sheet that was read, where the second argument is given.
+pub fn topic_text(
+    topic: Topic,
+    second: &[u8],
+    n: usize,
+    labels: &[u8],
+    widths: &[u16],
+    guards: &[u8],
+    starts: &[u16],
+    out: &mut [u8],
+) -> usize
+    requires { ⌜ (n ≤ 128) × Sized (now labels) (now widths) (now guards) (now starts)
+        × Fit (now second) topic × (9000 ≤ length (now out)) ⌝ }
+    ensures { λ r. ⌜ Wrote (now (out .entry)) 0
+        (topicText (now (second .entry)) topic n (now (labels .entry))
+        (lend (now (widths .entry)) (now (guards .entry))) (now (starts .entry))) r (now (out .exit)) ⌝ }
+    ensures { λ r. ⌜ r ≤ 9000 ⌝ }
+{
+    match topic {
+        Topic::Reason => why_text(second, n, labels, widths, guards, starts, out),
+        Topic::Verdict => judge_text(n, labels, widths, guards, starts, out),
+        Topic::Order(anchor) => order_text(anchor, n, labels, widths, guards, starts, out),
+    }
 }

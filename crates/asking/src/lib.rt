@@ -1,22 +1,24 @@
 // An inner crate of the ask program (RULES 26): from its arguments and an input, a sheet with a plan, to what is
 // printed.
 use questions::Question;
+use questions::Topic;
 ghost use mathlib.Core.Path.{_≡_};
-ghost use Prim.Native.Nat.{_≤_, _<_};
+ghost use Prim.Native.Nat.{_≤_};
 ghost use lib.ListN.{length};
 ghost use Rattle.rules.specs.Program.{refusalText, onSheet};
-ghost use Rattle.rules.specs.Asking.{whyText, judgeText, orderedText, asked};
+ghost use Rattle.rules.specs.Asking.{asked};
 ghost use Rattle.sheet_laws.specs.Sizes.{Sized};
-ghost use Rattle.sheet_laws.specs.Grid.{lowered};
+ghost use Rattle.questions.specs.Asks.{topicText, Fit};
 ghost use Rattle.spelling.specs.Says.{Wrote};
 ghost use Rattle.console.specs.Made.{Made};
 
 // Room for the longest answer: a chain of all 128 paths, whose links have at most 68 bytes each.
 pub const ANSWER_MOST: usize = 9000;
 
-// The answers from the input on, which the reader may refuse.
-fn why_answer(
-    name: &[u8],
+// What is asked of a sheet, from the input on, which the reader may refuse.
+fn sheet_answer(
+    topic: Topic,
+    second: &[u8],
     input: &[u8],
     labels: &mut [u8],
     widths: &mut [u16],
@@ -24,59 +26,18 @@ fn why_answer(
     starts: &mut [u16],
     out: &mut [u8],
 ) -> usize
-    requires { ⌜ Sized (now labels) (now widths) (now guards) (now starts)
-        × (length (now name) ≤ 8) × (9000 ≤ length (now out)) ⌝ }
-    ensures { λ r. ⌜ Wrote (now (out .entry)) 0
-        (onSheet refusalText (whyText (now (name .entry))) (now (input .entry))) r (now (out .exit)) ⌝ }
-    ensures { λ r. ⌜ r ≤ 9000 ⌝ }
-{
-    let got = sheet::read(input, labels, widths, guards, starts);
-    if got.number != 0 {
-        return console::refuse(out, got.number, got.place);
-    }
-    answers::why_text(name, got.n, labels, widths, guards, starts, out)
-}
-
-fn judge_answer(
-    input: &[u8],
-    labels: &mut [u8],
-    widths: &mut [u16],
-    guards: &mut [u8],
-    starts: &mut [u16],
-    out: &mut [u8],
-) -> usize
-    requires { ⌜ Sized (now labels) (now widths) (now guards) (now starts) × (9000 ≤ length (now out)) ⌝ }
-    ensures { λ r. ⌜ Wrote (now (out .entry)) 0
-        (onSheet refusalText judgeText (now (input .entry))) r (now (out .exit)) ⌝ }
-    ensures { λ r. ⌜ r ≤ 9000 ⌝ }
-{
-    let got = sheet::read(input, labels, widths, guards, starts);
-    if got.number != 0 {
-        return console::refuse(out, got.number, got.place);
-    }
-    answers::judge_text(got.n, labels, widths, guards, starts, out)
-}
-
-fn order_answer(
-    anchor: usize,
-    input: &[u8],
-    labels: &mut [u8],
-    widths: &mut [u16],
-    guards: &mut [u8],
-    starts: &mut [u16],
-    out: &mut [u8],
-) -> usize
-    requires { ⌜ Sized (now labels) (now widths) (now guards) (now starts) × (anchor < 200000)
+    requires { ⌜ Sized (now labels) (now widths) (now guards) (now starts) × Fit (now second) topic
         × (9000 ≤ length (now out)) ⌝ }
     ensures { λ r. ⌜ Wrote (now (out .entry)) 0
-        (onSheet refusalText (orderedText (lowered anchor)) (now (input .entry))) r (now (out .exit)) ⌝ }
+        (onSheet refusalText (topicText (now (second .entry)) topic) (now (input .entry))) r
+        (now (out .exit)) ⌝ }
     ensures { λ r. ⌜ r ≤ 9000 ⌝ }
 {
     let got = sheet::read(input, labels, widths, guards, starts);
     if got.number != 0 {
         return console::refuse(out, got.number, got.place);
     }
-    answers::order_text(anchor, got.n, labels, widths, guards, starts, out)
+    answers::topic_text(topic, second, got.n, labels, widths, guards, starts, out)
 }
 
 // From the arguments, how many there are and the first two of them, and the input to what is printed: so many
@@ -99,10 +60,8 @@ pub fn answer(
         (now (out .exit)) ⌝ }
 {
     match questions::asked_for(count, first, second) {
-        Question::Reason => why_answer(second, input, labels, widths, guards, starts, out),
-        Question::Verdict => judge_answer(input, labels, widths, guards, starts, out),
-        Question::Order(anchor) => {
-            order_answer(anchor, input, labels, widths, guards, starts, out)
+        Question::Sheet(topic) => {
+            sheet_answer(topic, second, input, labels, widths, guards, starts, out)
         }
         Question::NoLabel => spelling::put_word(out, 0, b"Say which path: why LABEL.\n"),
         Question::BadLabel => {

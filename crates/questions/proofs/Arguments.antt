@@ -17,7 +17,7 @@ use Rattle.rules.specs.Asking.{whyText, judgeText, orderedText, isWhole, whyWor
 use Rattle.sheet_laws.specs.Texts.{here, past}
 use Rattle.questions.specs.Asks.{AsksOrder, Asks}
 use Rattle.questions.specs.declared.Question.{Question}
-use Rattle.questions.specs.declared.Question.the-variants.{Reason, Verdict, Order, NoLabel, BadLabel, NoAnchor, BadAnchor, NoWord}
+use Rattle.questions.specs.declared.Question.the-variants.{Sheet, NoLabel, BadLabel, NoAnchor, BadAnchor, NoWord}
 
 -- nothing is left after a field exactly where it ends with the text
 pub whole-end : {A : Type 0} (a : A) (s : List ℕ) (e : ℕ) → e ≤ length s → eqb e (length s) ≡ isWhole (some a (drop e s))
@@ -123,10 +123,8 @@ module _ (s input : List ℕ) where
 -- what is asked with the word `order`, by what its anchor asks
 pub order-asks : (count : ℕ) (first second : List ℕ) → isWhole (word whyWord first) ≡ false → isWhole (word orderWord first) ≡ true → count ≢ 1 → count ≡ 2
     → (r : Question) → AsksOrder second r → Asks count first second r
-order-asks count first second w o e f (Order a) h = (λ input. asks-order count first second input w o e f ∙ h .0 input, h .1)
+order-asks count first second w o e f (Sheet topic) h = (λ input. asks-order count first second input w o e f ∙ h .0 input, h .1)
 order-asks count first second w o e f BadAnchor h = λ input. asks-order count first second input w o e f ∙ h input
-order-asks count first second w o e f Reason h = absurd h
-order-asks count first second w o e f Verdict h = absurd h
 order-asks count first second w o e f NoLabel h = absurd h
 order-asks count first second w o e f BadLabel h = absurd h
 order-asks count first second w o e f NoAnchor h = absurd h

@@ -14,13 +14,18 @@ ghost use Rattle.rules.specs.Sheet.{find};
 ghost use Rattle.rules.specs.Asking.{isWhole, whyWord, asked};
 ghost use Rattle.questions.specs.Asks.{AsksOrder, Asks};
 
-// What the arguments ask for: why a path stands where it stands, whether the plan is valid, or its order sheet from an
-// anchor, which is counted from -100,000. The others are answered without a sheet: no label or anchor is given, what is
-// given is none, or the words are others.
-pub enum Question {
+// What is asked of a sheet: why a path stands where it stands, whether the plan is valid, or its order sheet from an
+// anchor, which is counted from -100,000.
+pub enum Topic {
     Reason,
     Verdict,
     Order(usize),
+}
+
+// What the arguments ask for: something of a sheet. The others are answered without one: no label or anchor is given,
+// what is given is none, or the words are others.
+pub enum Question {
+    Sheet(Topic),
     NoLabel,
     BadLabel,
     NoAnchor,
@@ -61,7 +66,7 @@ fn why_asked(count: usize, second: &[u8]) -> Question
         return Question::NoWord;
     }
     if is_label(second) {
-        return Question::Reason;
+        return Question::Sheet(Topic::Reason);
     }
     Question::BadLabel
 }
@@ -79,7 +84,7 @@ fn anchor_asked(second: &[u8]) -> Question
     if grid::anchor_fault(grid::uncounted(anchor)).number != 0 {
         return Question::BadAnchor;
     }
-    Question::Order(anchor)
+    Question::Sheet(Topic::Order(anchor))
 }
 
 // What `order` asks for, likewise.
@@ -110,7 +115,7 @@ pub fn asked_for(count: usize, first: &[u8], second: &[u8]) -> Question
         return Question::NoWord;
     }
     if is_word(first, b"judge") {
-        return Question::Verdict;
+        return Question::Sheet(Topic::Verdict);
     }
     Question::NoWord
 }
@@ -122,9 +127,7 @@ pub fn needs_input(count: usize, first: &[u8], second: &[u8]) -> bool
         ≡ asked count (now (first .entry)) (now (second .entry)) other) ⌝ }
 {
     match asked_for(count, first, second) {
-        Question::Reason => true,
-        Question::Verdict => true,
-        Question::Order(_) => true,
+        Question::Sheet(_) => true,
         Question::NoLabel => false,
         Question::BadLabel => false,
         Question::NoAnchor => false,

@@ -43,7 +43,7 @@ is-word-requires-3 c κs = search needs
 returns-4 : tie.Need-returns-4
 returns-4 c =
     let a = c .before .before .before .before .before .before .before .before .before .before .before .before .args in
-    λ input. asks-judge (a .count) (now (a .first)) (now (a .second)) input (sym (c .before .before .before .before .before .before .before .before .is-word .ensures) ∙ c .before .before .before .before .before .before .before .if1 .left) (sym (c .before .before .before .before .before .is-word2 .ensures) ∙ c .before .before .before .before .if2 .left) (c .before .before .before .if3 .left) (sym (c .before .is-word3 .ensures) ∙ c .if4 .taken)
+    (λ input. asks-judge (a .count) (now (a .first)) (now (a .second)) input (sym (c .before .before .before .before .before .before .before .before .is-word .ensures) ∙ c .before .before .before .before .before .before .before .if1 .left) (sym (c .before .before .before .before .before .is-word2 .ensures) ∙ c .before .before .before .before .if2 .left) (c .before .before .before .if3 .left) (sym (c .before .is-word3 .ensures) ∙ c .if4 .taken), tt)
 
 returns-5 : tie.Need-returns-5
 returns-5 c =

@@ -28,49 +28,37 @@ enum-told-5 c = search needs
 enum-told-6 : tie.Need-enum-told-6
 enum-told-6 c = search needs
 
-enum-told-7 : tie.Need-enum-told-7
-enum-told-7 c = search needs
-
-enum-told-8 : tie.Need-enum-told-8
-enum-told-8 c = search needs
-
 returns : tie.Need-returns
 returns c = λ q input other. absurd (true≢false q)
 
 returns-2 : tie.Need-returns-2
-returns-2 c = λ q input other. absurd (true≢false q)
+returns-2 c =
+    let s = c .before .before .before .before .before in
+    let z : Asks (s .args .count) (now (s .args .first)) (now (s .args .second)) NoLabel = rw (c .enum-told2 .given .1) at (c .before .before .asked-for .ensures) in
+    λ q input other. z input ∙ sym (z other)
 
 returns-3 : tie.Need-returns-3
-returns-3 c = λ q input other. absurd (true≢false q)
+returns-3 c =
+    let s = c .before .before .before .before .before in
+    let z : Asks (s .args .count) (now (s .args .first)) (now (s .args .second)) BadLabel = rw (c .enum-told3 .given .1) at (c .before .before .asked-for .ensures) in
+    λ q input other. z input ∙ sym (z other)
 
 returns-4 : tie.Need-returns-4
 returns-4 c =
     let s = c .before .before .before .before .before in
-    let z : Asks (s .args .count) (now (s .args .first)) (now (s .args .second)) NoLabel = rw (c .enum-told4 .given .1) at (c .before .before .asked-for .ensures) in
+    let z : Asks (s .args .count) (now (s .args .first)) (now (s .args .second)) NoAnchor = rw (c .enum-told4 .given .1) at (c .before .before .asked-for .ensures) in
     λ q input other. z input ∙ sym (z other)
 
 returns-5 : tie.Need-returns-5
 returns-5 c =
     let s = c .before .before .before .before .before in
-    let z : Asks (s .args .count) (now (s .args .first)) (now (s .args .second)) BadLabel = rw (c .enum-told5 .given .1) at (c .before .before .asked-for .ensures) in
+    let z : Asks (s .args .count) (now (s .args .first)) (now (s .args .second)) BadAnchor = rw (c .enum-told5 .given .1) at (c .before .before .asked-for .ensures) in
     λ q input other. z input ∙ sym (z other)
 
 returns-6 : tie.Need-returns-6
 returns-6 c =
     let s = c .before .before .before .before .before in
-    let z : Asks (s .args .count) (now (s .args .first)) (now (s .args .second)) NoAnchor = rw (c .enum-told6 .given .1) at (c .before .before .asked-for .ensures) in
-    λ q input other. z input ∙ sym (z other)
-
-returns-7 : tie.Need-returns-7
-returns-7 c =
-    let s = c .before .before .before .before .before in
-    let z : Asks (s .args .count) (now (s .args .first)) (now (s .args .second)) BadAnchor = rw (c .enum-told7 .given .1) at (c .before .before .asked-for .ensures) in
-    λ q input other. z input ∙ sym (z other)
-
-returns-8 : tie.Need-returns-8
-returns-8 c =
-    let s = c .before .before .before .before .before in
-    let z : Asks (s .args .count) (now (s .args .first)) (now (s .args .second)) NoWord = rw (c .enum-told8 .given .1) at (c .before .before .asked-for .ensures) in
+    let z : Asks (s .args .count) (now (s .args .first)) (now (s .args .second)) NoWord = rw (c .enum-told6 .given .1) at (c .before .before .asked-for .ensures) in
     λ q input other. z input ∙ sym (z other)
 
 pub needs-input-spec : {M : Type 1} → statement M
@@ -84,13 +72,9 @@ needs-input-spec =
     enum-told-4
     enum-told-5
     enum-told-6
-    enum-told-7
-    enum-told-8
     returns
     returns-2
     returns-3
     returns-4
     returns-5
-    returns-6
-    returns-7
-    returns-8)
+    returns-6)

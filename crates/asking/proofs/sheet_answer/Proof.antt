@@ -1,13 +1,13 @@
-use Rattle.rules.specs.Tables.{lend}
-use Rattle.rules.specs.Program.{refusalText, onSheet}
-use Rattle.rules.specs.Asking.{whyText}
-use Rattle.sheet_laws.specs.Reads.{short-refusal, few-paths, on-refusal, on-tables}
-use Rattle.answers.proofs.Answers.{retold}
-use borrow.Author.Needs.{needs}
 use native.Mathlib.Omega.{arith}
 use denote.Ref.{now}
-use Rattle.asking.proofs.why_answer.Statement.{statement}
-use Rattle.asking.proofs.why_answer.Tie as tie
+use Rattle.rules.specs.Tables.{lend}
+use Rattle.rules.specs.Program.{refusalText, onSheet}
+use Rattle.sheet_laws.specs.Reads.{short-refusal, few-paths, on-refusal, on-tables}
+use Rattle.questions.specs.Asks.{topicText}
+use Rattle.answers.proofs.Answers.{retold}
+use borrow.Author.Needs.{needs}
+use Rattle.asking.proofs.sheet_answer.Statement.{statement}
+use Rattle.asking.proofs.sheet_answer.Tie as tie
 
 read-requires : tie.Need-read-requires
 read-requires c κs = search needs
@@ -43,10 +43,10 @@ returns c =
     let q = s .pre .0 in
     let d = c .before .before .before .before .before .before .before .before .before .before .before .before .before .before .read in
     let f = c .before .before .refuse in
-    (retold (now (a .out)) (f .last .0) (refusalText (d .result .number) (d .result .place)) (onSheet refusalText (whyText (now (a .name))) (now (a .input))) 0 (f .result) (on-refusal (now (a .input)) (now (a .labels)) (lend (now (a .widths)) (now (a .guards))) (now (a .starts)) (q .labels-size) (q .widths-size) (q .guards-size) (q .starts-size) (d .result) (d .last .1 .0) (lend (d .last .1 .1 .0) (d .last .1 .1 .1 .0)) (d .last .1 .1 .1 .1 .0) (d .ensures) refusalText (whyText (now (a .name))) (c .before .before .before .before .if1 .taken)) (f .ensures .0), omega (arith, f .ensures .1))
+    (retold (now (a .out)) (f .last .0) (refusalText (d .result .number) (d .result .place)) (onSheet refusalText (topicText (now (a .second)) (a .topic)) (now (a .input))) 0 (f .result) (on-refusal (now (a .input)) (now (a .labels)) (lend (now (a .widths)) (now (a .guards))) (now (a .starts)) (q .labels-size) (q .widths-size) (q .guards-size) (q .starts-size) (d .result) (d .last .1 .0) (lend (d .last .1 .1 .0) (d .last .1 .1 .1 .0)) (d .last .1 .1 .1 .1 .0) (d .ensures) refusalText (topicText (now (a .second)) (a .topic)) (c .before .before .before .before .if1 .taken)) (f .ensures .0), omega (arith, f .ensures .1))
 
-why-text-requires : tie.Need-why-text-requires
-why-text-requires c κs =
+topic-text-requires : tie.Need-topic-text-requires
+topic-text-requires c κs =
     let s = c .before .before .before .before .before .before .before .before .before .before .before .before .before .before .before .before .before .before .before .before .before .before .before .before .before .before .before in
     let a = s .args in
     let q = s .pre .0 in
@@ -74,11 +74,11 @@ returns-2 c =
     let a = s .args in
     let q = s .pre .0 in
     let d = c .before .before .before .before .before .before .before .before .before .before .before .before .before .before .before .before .before .before .read in
-    let f = c .before .before .why-text in
-    (retold (now (a .out)) (f .last .1 .1 .1 .1 .1 .1 .0) ((whyText (now (a .name))) (d .result .n) (d .last .1 .0) (lend (d .last .1 .1 .0) (d .last .1 .1 .1 .0)) (d .last .1 .1 .1 .1 .0)) (onSheet refusalText (whyText (now (a .name))) (now (a .input))) 0 (f .result) (on-tables (now (a .input)) (now (a .labels)) (lend (now (a .widths)) (now (a .guards))) (now (a .starts)) (q .labels-size) (q .widths-size) (q .guards-size) (q .starts-size) (d .result) (d .last .1 .0) (lend (d .last .1 .1 .0) (d .last .1 .1 .1 .0)) (d .last .1 .1 .1 .1 .0) (d .ensures) refusalText (whyText (now (a .name))) (c .before .before .before .before .before .before .before .before .if1 .left)) (f .ensures .0), f .ensures .1)
+    let f = c .before .before .topic-text in
+    (retold (now (a .out)) (f .last .1 .1 .1 .1 .1 .1 .1 .0) (topicText (now (a .second)) (a .topic) (d .result .n) (d .last .1 .0) (lend (d .last .1 .1 .0) (d .last .1 .1 .1 .0)) (d .last .1 .1 .1 .1 .0)) (onSheet refusalText (topicText (now (a .second)) (a .topic)) (now (a .input))) 0 (f .result) (on-tables (now (a .input)) (now (a .labels)) (lend (now (a .widths)) (now (a .guards))) (now (a .starts)) (q .labels-size) (q .widths-size) (q .guards-size) (q .starts-size) (d .result) (d .last .1 .0) (lend (d .last .1 .1 .0) (d .last .1 .1 .1 .0)) (d .last .1 .1 .1 .1 .0) (d .ensures) refusalText (topicText (now (a .second)) (a .topic)) (c .before .before .before .before .before .before .before .before .if1 .left)) (f .ensures .0), f .ensures .1)
 
-pub why-answer-spec : {M : Type 1} → statement M
-why-answer-spec =
+pub sheet-answer-spec : {M : Type 1} → statement M
+sheet-answer-spec =
     tie.close
     (tie.spec
     read-requires
@@ -89,7 +89,7 @@ why-answer-spec =
     same-length-4
     same-length-5
     returns
-    why-text-requires
+    topic-text-requires
     same-length-6
     same-length-7
     same-length-8
