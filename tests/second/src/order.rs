@@ -53,16 +53,23 @@ pub fn centre(anchor: i32, start: usize, width: usize) -> Answer {
     Answer::of(run())
 }
 
+/// What both calls test first: 2, 17, 1, 3, 4, 5. The network.
+fn tested(
+    anchor: i32, n: usize, labels: &[u8], widths: &[u16], guards: &[u8], starts: &[u16],
+) -> Result<Network, Refusal> {
+    sizes(&[(labels.len(), LABELS), (widths.len(), PATHS)])?;
+    sizes(&[(guards.len(), CELLS), (starts.len(), PATHS)])?;
+    anchor_allowed(anchor)?;
+    calls::network(n, widths, guards)
+}
+
 /// The writer: 2, 17, 1, 3, 4, 5, 11, 12, 7, 16. The length, and nothing changed past it.
 pub fn write(
     anchor: i32, n: usize, labels: &[u8], widths: &[u16], guards: &[u8], starts: &[u16],
     text: &mut [u8],
 ) -> Answer {
     let mut run = || {
-        sizes(&[(labels.len(), LABELS), (widths.len(), PATHS)])?;
-        sizes(&[(guards.len(), CELLS), (starts.len(), PATHS)])?;
-        anchor_allowed(anchor)?;
-        let net = calls::network(n, widths, guards)?;
+        let net = tested(anchor, n, labels, widths, guards, starts)?;
         let labels = sheet::labels_of(n, labels)?;
         let starts = calls::starts_of(n, starts)?;
         let mut sheet = format!("order {n}\n").into_bytes();
@@ -125,10 +132,7 @@ pub fn read(
     starts: &mut [u16],
 ) -> Answer {
     let mut run = || {
-        sizes(&[(labels.len(), LABELS), (widths.len(), PATHS)])?;
-        sizes(&[(guards.len(), CELLS), (starts.len(), PATHS)])?;
-        anchor_allowed(anchor)?;
-        let net = calls::network(n, widths, guards)?;
+        let net = tested(anchor, n, labels, widths, guards, starts)?;
         let found = starts_in(text, anchor, &net, labels)?;
         starts.iter_mut().zip(found).for_each(|(cell, start)| *cell = start as u16);
         Ok(Answer::done(0, 0))
