@@ -30,7 +30,8 @@ use Rattle.rules.specs.Planning.{Run, startNext, greedy, swapped, stateAfter, t
 use Rattle.rules.specs.Writing.{sheetText}
 use Rattle.rules.specs.Numbers.{judgeFault, whyFault, packFault, twoSidesFault, planFault, improveFault, floorFault, writeFault}
 use Rattle.rules.specs.Calls.{Left, unless, refusedPacked, donePacked, packing, refusedPressed, donePressed, pressing, refusedWhy, doneWhy, explaining, siding, refusedPlanned, donePlanned, doneImproved, improving, donePlan, planning, flooring, writing}
-use Rattle.table_laws.specs.Tables.{at-other, cleared-length}
+use Rattle.table_laws.specs.Tables.{cleared-length}
+use Rattle.table_laws.specs.Updates.{kept-none, kept-set}
 use Rattle.plan_laws.specs.Arranged.{arranged-order}
 use Rattle.plan_laws.specs.Improve.{place-below, draw-below, round-kept, round-left}
 use Rattle.plan_laws.specs.Answers.{unless-done, pressing-judgeable, judgeable-pressing, explaining-explainable, explainable-explaining, Packable, packing-packable, packable-packing, siding-done, sidable-siding, improving-packable, packable-improving, planning-plannable, plannable-planning}
@@ -125,13 +126,7 @@ writing-refused n labels lent starts text z =
 pub kept-all : (before after : List ℕ) → KeptFrom 0 before after → after ≡ before
 kept-all before after h = ext-getD 0 after before (h .size) (λ k l. h .cells k (omega arith))
 
--- no cell is written, then one below n, then what is made of such steps
-kept-none : (n : ℕ) (t : List ℕ) → KeptFrom n t t
-kept-none n t = record { size = refl; cells = λ k l. refl }
-
-kept-set : (n : ℕ) (t s : List ℕ) (c v : ℕ) → c < n → KeptFrom n t s → KeptFrom n t (set s c v)
-kept-set n t s c v l h = record { size = length-set s c v ∙ h .size; cells = λ k g. at-other s c v k (λ e. omega arith) ∙ h .cells k g }
-
+-- what is made of steps that write a cell below n each
 packed-kept : (rule : Rule) (o : ℕ → ℕ) (t : List ℕ) (n m : ℕ) → ((i : ℕ) → i < m → o i < n) → KeptFrom n t (packed rule o t m)
 unfolding packed
 packed-kept rule o t n zero h = kept-none n t

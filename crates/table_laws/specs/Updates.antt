@@ -6,6 +6,7 @@ use native.Mathlib.Omega.{arith}
 use lib.ListN.{length, set, length-set}
 use borrow.Author.Count.{below-none, below-more}
 use Rattle.rules.specs.Tables.{at}
+use Rattle.rules.specs.Limits.{KeptFrom}
 use Rattle.table_laws.specs.Tables.{at-same, at-other}
 
 -- xs is xs₀ with the cells below j replaced
@@ -28,3 +29,10 @@ update-more f xs₀ xs j v u l e = record {
 
 pub update-all : (f : ℕ → ℕ → ℕ) (xs₀ xs : List ℕ) (j n : ℕ) → Updated f xs₀ xs j → j ≡ n → Updated f xs₀ xs n
 update-all f xs₀ xs j n u e = rw e at u
+
+-- the cells of index n or more: no cell is written, then one below n
+pub kept-none : (n : ℕ) (t : List ℕ) → KeptFrom n t t
+kept-none n t = record { size = refl; cells = λ k l. refl }
+
+pub kept-set : (n : ℕ) (t s : List ℕ) (c v : ℕ) → c < n → KeptFrom n t s → KeptFrom n t (set s c v)
+kept-set n t s c v l h = record { size = length-set s c v ∙ h .size; cells = λ k g. at-other s c v k (λ e. omega arith) ∙ h .cells k g }
