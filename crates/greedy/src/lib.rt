@@ -10,8 +10,8 @@ ghost use Rattle.rules.specs.Packing.{lowest};
 ghost use Rattle.rules.specs.Limits.{Network};
 ghost use Rattle.rules.specs.Planning.{greedy};
 
-// The engine's table of lowest starts is the key: each next path is the free one of the lowest need, ties
-// to the lowest number.
+// The engine's table of lowest starts is the key: each next path is the one of the lowest start, ties to the
+// lowest number, and a path that is in the order has a key above all starts.
 pub fn greedy_order(n: usize, widths: &[u16], guards: &[u8], order: &mut [u8])
     requires { ⌜ Network n (lend (now widths) (now guards)) × (length (now order) ≡ 128) ⌝ }
     ensures { λ _. ⌜ ((table : List ℕ) → length table ≡ 128 → now (order .exit)
@@ -20,14 +20,12 @@ pub fn greedy_order(n: usize, widths: &[u16], guards: &[u8], order: &mut [u8])
 {
     let mut need = [0u16; rules::PATHS];
     engine::lowest_starts(n, &mut need);
-    let mut marks = [0u8; rules::PATHS];
     let mut m: usize = 0;
     while m < n {
-        let c = engine::least_unmarked(n, &need, &marks);
-        let base = need[c] + widths[c];
+        let c = engine::least_key(n, &need);
+        engine::place(n, c, widths[c], guards, &mut need);
         order[m] = c as u8;
-        marks[c] = 1;
-        engine::raise(n, c, base, guards, &mut need);
+        need[c] = engine::TAKEN;
         m += 1;
     }
 }

@@ -30,6 +30,9 @@ update-more f xs₀ xs j v u l e = record {
 pub update-all : (f : ℕ → ℕ → ℕ) (xs₀ xs : List ℕ) (j n : ℕ) → Updated f xs₀ xs j → j ≡ n → Updated f xs₀ xs n
 update-all f xs₀ xs j n u e = rw e at u
 
+pub update-set : (f : ℕ → ℕ → ℕ) (xs₀ xs : List ℕ) (j c v size : ℕ) → Updated f xs₀ xs j → length xs₀ ≡ size → length (set xs c v) ≡ size
+update-set f xs₀ xs j c v size u e = length-set xs c v ∙ u .long ∙ e
+
 -- the cells of index n or more: no cell is written, then one below n
 pub kept-none : (n : ℕ) (t : List ℕ) → KeptFrom n t t
 kept-none n t = record { size = refl; cells = λ k l. refl }

@@ -1,49 +1,55 @@
 use native.Mathlib.Omega.{arith}
 use borrow.Author.Needs.{needs}
 use Prim.Native.Nat.{ℕ, _+_, _*_, _≤_, _<_, _-_}
-use mathlib.Core.Path.{_≡_, refl}
+use mathlib.Core.Path.{_≡_, refl, _∙_}
 use mathlib.Core.List.{List}
-use lib.ListN.{length, replicate, getD-replicate}
+use lib.ListN.{length, replicate}
 use Rattle.rules.specs.Tables.{at, lend}
+use Rattle.table_laws.specs.Updates.{update-set}
 use Rattle.plan_laws.specs.Growing.{Growing, growing-first, growing-below, growing-bound, growing-more, growing-last}
 use Rattle.greedy.proofs.greedy_order.Statement.{statement}
 use Rattle.greedy.proofs.greedy_order.Tie as tie
 
 abbrev Inv-loop : tie.InvT-loop
-Inv-loop n widths guards order₀ need₀ marks₀ m₀ order need marks m = ((table : List ℕ) → length table ≡ 128 → Growing n (lend widths guards) order₀ table order marks need m)
+Inv-loop n widths guards order₀ need₀ m₀ order need m = (length need ≡ 128) × ((table : List ℕ) → length table ≡ 128 → Growing n (lend widths guards) order₀ table order need m)
 
 abbrev μ-loop : tie.MeasureT-loop
-μ-loop n widths guards order₀ need₀ marks₀ m₀ order need marks m = n - m
+μ-loop n widths guards order₀ need₀ m₀ order need m = n - m
 
 -- what is kept so far, over some table
-so-far : (c : tie.At-loop Inv-loop μ-loop) → let s = c .before .before .before .before .before .before .before in Growing (s .args .n) (lend (s .args .widths .now) (s .args .guards .now)) (s .args .order .now) (replicate 128 0) (c .loop .order) (c .loop .marks) (c .loop .need) (c .loop .m)
-so-far c = c .loop .inv (replicate 128 0) refl
+so-far : (c : tie.At-loop Inv-loop μ-loop) → let s = c .before .before .before .before .before .before .before in Growing (s .args .n) (lend (s .args .widths .now) (s .args .guards .now)) (s .args .order .now) (replicate 128 0) (c .loop .order) (c .loop .need) (c .loop .m)
+so-far c = c .loop .inv .1 (replicate 128 0) refl
 
--- what the tests tell in a turn: the chosen path is a path, and the sums fit
+-- what is known in a turn: the chosen path is a path, and the sums fit
 record Turn (n width need m c full long : ℕ) : Type 0 where
   pub known : c < n
+  pub few : n ≤ 128
+  pub here : m < n
   pub low : need ≤ 1 + 96 * m
   pub thick : 1 ≤ width
   pub thin : width ≤ 64
   pub wide : full ≡ 128
   pub room : long ≡ 128
 
-turn : (c : tie.After-least-unmarked Inv-loop μ-loop) →
-    let h = c .before .before .before .before in
-    let s = c .before .before .before .before .before .before .before .before .before .before .before in
-    Turn (s .args .n) (at (s .args .widths .now) (c .least-unmarked .result)) (at (h .loop .need) (c .least-unmarked .result)) (h .loop .m) (c .least-unmarked .result) (length (h .loop .need)) (length (h .loop .order))
+turn : (c : tie.After-least-key Inv-loop μ-loop) →
+    let h = c .before .before .before in
+    let s = c .before .before .before .before .before .before .before .before .before .before in
+    Turn (s .args .n) (at (s .args .widths .now) (c .least-key .result)) (at (h .loop .need) (c .least-key .result)) (h .loop .m) (c .least-key .result) (length (h .loop .need)) (length (h .loop .order))
 turn c =
-    let h = c .before .before .before .before in
-    let s = c .before .before .before .before .before .before .before .before .before .before .before in
+    let h = c .before .before .before in
+    let s = c .before .before .before .before .before .before .before .before .before .before in
     let g = so-far h in
-    let k = growing-below (s .args .n) (lend (s .args .widths .now) (s .args .guards .now)) (s .args .order .now) (replicate 128 0) (s .pre .0) (s .pre .1) refl (h .loop .order) (h .loop .marks) (h .loop .need) (h .loop .m) g (c .before .before .before .loop-test .taken) (c .least-unmarked .result) (c .least-unmarked .ensures) in
+    let l = c .before .before .loop-test .taken in
+    let k = growing-below (s .args .n) (lend (s .args .widths .now) (s .args .guards .now)) (s .args .order .now) (replicate 128 0) (s .pre .0) (s .pre .1) refl (h .loop .order) (h .loop .need) (h .loop .m) g l (c .least-key .result) (c .least-key .ensures) in
     record {
       known = k;
-      low = growing-bound (s .args .n) (lend (s .args .widths .now) (s .args .guards .now)) (s .args .order .now) (replicate 128 0) (s .pre .0) (s .pre .1) refl (h .loop .order) (h .loop .marks) (h .loop .need) (h .loop .m) g (c .before .before .before .loop-test .taken) (c .least-unmarked .result) (c .least-unmarked .ensures);
+      few = s .pre .0 .few;
+      here = l;
+      low = growing-bound (s .args .n) (lend (s .args .widths .now) (s .args .guards .now)) (s .args .order .now) (replicate 128 0) (s .pre .0) (s .pre .1) refl (h .loop .order) (h .loop .need) (h .loop .m) g l (c .least-key .result) (c .least-key .ensures);
       thick = s .pre .0 .width _ k .0;
       thin = s .pre .0 .width _ k .1;
-      wide = g .stands .wide;
-      room = omega (arith, g .arranging .long, s .pre .1);
+      wide = h .loop .inv .0;
+      room = g .long ∙ s .pre .1;
     }
 
 slice-aggregate-lowest-starts : tie.Need-slice-aggregate-lowest-starts Inv-loop μ-loop
@@ -53,70 +59,63 @@ lowest-starts-requires : tie.Need-lowest-starts-requires Inv-loop μ-loop
 lowest-starts-requires c κs = omega arith
 
 loop-holds : tie.Need-loop-holds Inv-loop μ-loop
-loop-holds c = λ table l.
+loop-holds c =
     let s = c .before .before .before .before .before .before in
     let u = c .before .lowest-starts .ensures in
-    growing-first (s .args .n) (lend (s .args .widths .now) (s .args .guards .now)) (s .args .order .now) table (s .pre .0) (s .pre .1) l (replicate 128 0) _ refl (u .long) (λ k g. getD-replicate 128 k 0 0 (omega (arith, s .pre .0 .few))) (λ k g. u .done k g)
+    (u .long, λ table l. growing-first (s .args .n) (lend (s .args .widths .now) (s .args .guards .now)) (s .args .order .now) table (s .pre .0) (s .pre .1) l _ (λ k g. u .done k g))
 
-slice-aggregate-least-unmarked : tie.Need-slice-aggregate-least-unmarked Inv-loop μ-loop
-slice-aggregate-least-unmarked c = let e = so-far (c .before .before) .stands .wide in search needs
+slice-aggregate-least-key : tie.Need-slice-aggregate-least-key Inv-loop μ-loop
+slice-aggregate-least-key c = let e = c .before .before .loop .inv .0 in search needs
 
-slice-aggregate-least-unmarked-2 : tie.Need-slice-aggregate-least-unmarked-2 Inv-loop μ-loop
-slice-aggregate-least-unmarked-2 c = let e = so-far (c .before .before .before) .arranging .full in search needs
+least-key-requires : tie.Need-least-key-requires Inv-loop μ-loop
+least-key-requires c κs = omega (arith, c .before .before .loop .inv .0, c .before .before .before .before .before .before .before .before .before .pre .0 .few, c .before .loop-test .taken)
 
-least-unmarked-requires : tie.Need-least-unmarked-requires Inv-loop μ-loop
-least-unmarked-requires c κs = omega (arith, so-far (c .before .before .before) .stands .wide, so-far (c .before .before .before) .arranging .full, c .before .before .before .before .before .before .before .before .before .before .pre .0 .few)
+mul-place : tie.Need-mul-place Inv-loop μ-loop
+mul-place c = omega (arith, turn c)
 
-mul-base : tie.Need-mul-base Inv-loop μ-loop
-mul-base c = omega (arith, turn c)
+shared-slice-read-place : tie.Need-shared-slice-read-place Inv-loop μ-loop
+shared-slice-read-place c = omega (arith, turn (c .before), c .before .before .before .before .before .before .before .before .before .before .before .pre .0 .widthsSize)
 
-array-read-base : tie.Need-array-read-base Inv-loop μ-loop
-array-read-base c = omega (arith, turn c)
+slice-aggregate-place : tie.Need-slice-aggregate-place Inv-loop μ-loop
+slice-aggregate-place c = let e = c .before .before .before .before .before .loop .inv .0 in search needs
 
-mul-base-2 : tie.Need-mul-base-2 Inv-loop μ-loop
-mul-base-2 c = omega (arith, turn c)
-
-shared-slice-read-base : tie.Need-shared-slice-read-base Inv-loop μ-loop
-shared-slice-read-base c = omega (arith, turn (c .before))
-
-add-base : tie.Need-add-base Inv-loop μ-loop
-add-base c = omega (arith, turn (c .before))
+place-requires : tie.Need-place-requires Inv-loop μ-loop
+place-requires c κs = omega (arith, turn (c .before .before), c .before .before .before .before .before .before .before .before .before .before .before .before .pre .0 .guardsSize)
 
 cast-order : tie.Need-cast-order Inv-loop μ-loop
-cast-order c = omega (arith, turn (c .before))
+cast-order c = omega (arith, turn (c .before .before .before .before))
 
 slice-write-order : tie.Need-slice-write-order Inv-loop μ-loop
-slice-write-order c = omega (arith, turn (c .before))
+slice-write-order c = omega (arith, turn (c .before .before .before .before))
 
-array-write-marks : tie.Need-array-write-marks Inv-loop μ-loop
-array-write-marks c = omega (arith, turn (c .before))
+mul-need : tie.Need-mul-need Inv-loop μ-loop
+mul-need c = omega (arith, turn (c .before .before .before .before))
 
-slice-aggregate-raise : tie.Need-slice-aggregate-raise Inv-loop μ-loop
-slice-aggregate-raise c = let e = so-far (c .before .before .before .before .before .before) .stands .wide in search needs
-
-raise-requires : tie.Need-raise-requires Inv-loop μ-loop
-raise-requires c κs = omega (arith, turn (c .before .before))
+array-write-need : tie.Need-array-write-need Inv-loop μ-loop
+array-write-need c = omega (arith, turn (c .before .before .before .before))
 
 add-m : tie.Need-add-m Inv-loop μ-loop
-add-m c = omega arith
+add-m c = omega (arith, turn (c .before .before .before .before))
 
 loop-less : tie.Need-loop-less Inv-loop μ-loop
-loop-less c = omega arith
+loop-less c = omega (arith, turn (c .before .before .before .before))
 
 loop-again : tie.Need-loop-again Inv-loop μ-loop
-loop-again c = λ table l.
+loop-again c =
     let d = c .before .before .before .before in
-    let h = d .before .before .before .before in
-    let s = d .before .before .before .before .before .before .before .before .before .before .before in
-    growing-more (s .args .n) (lend (s .args .widths .now) (s .args .guards .now)) (s .args .order .now) table (s .pre .0) (s .pre .1) l (h .loop .order) (h .loop .marks) (h .loop .need) (h .loop .m) (h .loop .inv table l) (d .before .before .before .loop-test .taken) (d .least-unmarked .result) (d .least-unmarked .ensures) _ _ _ refl refl (c .before .raise .ensures)
+    let h = d .before .before .before in
+    let s = d .before .before .before .before .before .before .before .before .before .before in
+    let u = c .before .place .ensures .1 in
+    (update-set _ _ _ _ _ _ _ u (h .loop .inv .0),
+    λ table l. growing-more (s .args .n) (lend (s .args .widths .now) (s .args .guards .now)) (s .args .order .now) table (s .pre .0) (s .pre .1) l (h .loop .order) (h .loop .need) (h .loop .m) (h .loop .inv .1 table l) (d .before .before .loop-test .taken) (d .least-key .result) (d .least-key .ensures) _ _ refl (omega (arith, turn d)) u)
 
 same-length : tie.Need-same-length Inv-loop μ-loop
-same-length c = so-far (c .before) .arranging .long
+same-length c = so-far (c .before) .long
 
 returns : tie.Need-returns Inv-loop μ-loop
 returns c = λ table l.
     let s = c .before .before .before .before .before .before .before .before in
-    growing-last (s .args .n) (lend (s .args .widths .now) (s .args .guards .now)) (s .args .order .now) table (s .pre .0) (s .pre .1) l _ _ _ (c .before .loop .m) (c .before .loop .inv table l) (c .loop-test .left)
+    growing-last (s .args .n) (lend (s .args .widths .now) (s .args .guards .now)) (s .args .order .now) table (s .pre .0) (s .pre .1) l _ _ (c .before .loop .m) (c .before .loop .inv .1 table l) (c .loop-test .left)
 
 pub greedy-order-spec : {M : Type 1} → statement M
 greedy-order-spec =
@@ -127,19 +126,16 @@ greedy-order-spec =
     slice-aggregate-lowest-starts
     lowest-starts-requires
     loop-holds
-    slice-aggregate-least-unmarked
-    slice-aggregate-least-unmarked-2
-    least-unmarked-requires
-    mul-base
-    array-read-base
-    mul-base-2
-    shared-slice-read-base
-    add-base
+    slice-aggregate-least-key
+    least-key-requires
+    mul-place
+    shared-slice-read-place
+    slice-aggregate-place
+    place-requires
     cast-order
     slice-write-order
-    array-write-marks
-    slice-aggregate-raise
-    raise-requires
+    mul-need
+    array-write-need
     add-m
     loop-less
     loop-again
