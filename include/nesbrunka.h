@@ -34,6 +34,26 @@
  *   - The library keeps no state and allocates nothing, and needs nothing but memset and
  *     memcpy. Calls on different tables may run at the same time.
  *
+ * Stack. The most bytes that a call uses on x86-64, whatever it is lent, from its caller's stack
+ * pointer down: arguments on the stack, return address, and all below. memset and memcpy count
+ * with their return address alone.
+ *
+ *   nesbrunka_judge            336
+ *   nesbrunka_pack             672
+ *   nesbrunka_press            672
+ *   nesbrunka_why              672
+ *   nesbrunka_better           976
+ *   nesbrunka_two_sides      1,248
+ *   nesbrunka_plan           1,344
+ *   nesbrunka_improve          701
+ *   nesbrunka_floor          2,368
+ *   nesbrunka_read           1,272
+ *   nesbrunka_write          1,488
+ *   nesbrunka_centre             8
+ *   nesbrunka_centre_number      8
+ *   nesbrunka_order_write    1,488
+ *   nesbrunka_order_read       592
+ *
  * Answers. `number` is NESBRUNKA_DONE or the number of a refusal, `place` says where. A refused
  * call changes no table, and its other numbers are 0, but for `short_` beside
  * NESBRUNKA_REFUSED_CLASH; and nesbrunka_read, unless it refuses a size, clears its four tables:
