@@ -53,6 +53,20 @@ void lay_line(size_t n)
         join(k - 1, k, NESBRUNKA_GUARD_MOST);
 }
 
+void lay_mixed_line(size_t n)
+{
+    lay(n);
+    for (size_t k = 1; k < n; k++)
+        join(37 * (k - 1) % n, 37 * k % n, NESBRUNKA_GUARD_MOST);
+}
+
+void lay_ring(size_t n, size_t length)
+{
+    lay(n);
+    for (size_t k = 0; k < length; k++)
+        join(k, (k + 1) % length, NESBRUNKA_GUARD_MOST);
+}
+
 void lay_star(size_t n)
 {
     lay(n);

@@ -30,9 +30,12 @@ void join(size_t i, size_t j, uint8_t guard);
    widths, and labels have eight bytes. The orders and the list are 0, 1, 2 and so on. */
 void lay(size_t n);
 
-/* Networks with the largest guard. In conflict are: each path with the next one; the first with all
-   others; each even one with the next; all with all; all of the first half with all of the second. */
+/* Networks with the largest guard. In conflict are: each path with the next one; each with the one that
+   has 37 more, counted around; the first `length` in a ring; the first with all others; each even one
+   with the next; all with all; all of the first half with all of the second. */
 void lay_line(size_t n);
+void lay_mixed_line(size_t n);
+void lay_ring(size_t n, size_t length);
 void lay_star(size_t n);
 void lay_pairs(size_t n);
 void lay_dense(size_t n);

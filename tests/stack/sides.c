@@ -1,0 +1,126 @@
+/* nesbrunka_two_sides: the same use for every network, at most 4 KiB. What asks this is tried with a
+   recursion, which it refuses. */
+#include <stdio.h>
+
+#include "checks.h"
+#include "samples.h"
+
+enum {
+    NETWORKS = 11,
+    SIDES_MOST = 4096,
+    /* A function that calls none has 128 bytes below its stack pointer. What it keeps there for its
+       loops over many paths at once is not written where the paths are few. */
+    UNWRITTEN = 128
+};
+
+/* What finding the sides used, network by network. */
+static struct {
+    size_t n, used;
+} found[NETWORKS];
+
+static size_t networks;
+
+static void note(size_t n, size_t used)
+{
+    found[networks].n = n;
+    found[networks].used = used;
+    networks++;
+}
+
+static void find_sides(const char *network, void (*frame)(void), size_t number, size_t low)
+{
+    size_t used = walk(network, frame, number, 0);
+    expect(network, answer.sided.low, low);
+    printf("%s, %s: %zu bytes\n", call, network, used);
+    note(lent.n, used);
+}
+
+static void find_all_sides(void (*frame)(void))
+{
+    networks = 0;
+    lay(1);
+    find_sides("one path", frame, NESBRUNKA_DONE, 1);
+    lay_line(2);
+    find_sides("two paths", frame, NESBRUNKA_DONE, 1);
+    lay_ring(3, 3);
+    find_sides("a ring of three, no sides", frame, NESBRUNKA_REFUSED_NO_SIDES, 0);
+    lay(PATHS);
+    find_sides("128 paths without a conflict", frame, NESBRUNKA_DONE, PATHS);
+    lay_line(PATHS);
+    find_sides("a line of 128", frame, NESBRUNKA_DONE, PATHS / 2);
+    lay_mixed_line(PATHS);
+    find_sides("a line of 128, its numbers mixed", frame, NESBRUNKA_DONE, PATHS / 2);
+    lay_star(PATHS);
+    find_sides("a star of 128", frame, NESBRUNKA_DONE, 1);
+    lay_pairs(PATHS);
+    find_sides("64 pairs", frame, NESBRUNKA_DONE, PATHS / 2);
+    lay_halves(PATHS);
+    find_sides("64 with 64, all across", frame, NESBRUNKA_DONE, PATHS / 2);
+    lay_dense(PATHS);
+    find_sides("128 all with all, no sides", frame, NESBRUNKA_REFUSED_NO_SIDES, 0);
+    lay_ring(PATHS, PATHS - 1);
+    find_sides("a ring of 127 and one path, no sides", frame, NESBRUNKA_REFUSED_NO_SIDES, 0);
+}
+
+enum room { FIXED, DIFFERENT, TOO_LARGE };
+
+/* Every network of 128 paths uses the same, a smaller one no more, and less only by what is not
+   written. */
+static enum room room_for_sides(void)
+{
+    size_t full = 0;
+    for (size_t k = 0; k < networks; k++)
+        if (found[k].used > full)
+            full = found[k].used;
+    for (size_t k = 0; k < networks; k++)
+        if (full - found[k].used > (found[k].n == PATHS ? 0 : UNWRITTEN))
+            return DIFFERENT;
+    return full <= SIDES_MOST ? FIXED : TOO_LARGE;
+}
+
+/* Of two networks. */
+static enum room room_of(size_t n, size_t used, size_t other_n, size_t other_used)
+{
+    networks = 0;
+    note(n, used);
+    note(other_n, other_used);
+    return room_for_sides();
+}
+
+static void frame_recursive(void)
+{
+    MEASURE(answer.sided = recursive_sides(lent.n, lent.guards, lent.order));
+}
+
+static void frame_fill_large(void)
+{
+    MEASURE(fill_large(1));
+}
+
+/* What nesbrunka_two_sides is held to refuses what it should. */
+void try_sides(void)
+{
+    begin("a recursion");
+    find_all_sides(frame_recursive);
+    check(room_for_sides() == DIFFERENT, "a recursion is taken for fixed room");
+    check(most > 10 * found[1].used, "a recursion uses %zu bytes for two paths, and %zu for a line",
+          found[1].used, most);
+    begin("5,000 bytes");
+    size_t large = measure("5,000 bytes", frame_fill_large);
+    check(room_of(PATHS, large, PATHS, large) == TOO_LARGE, "5,000 bytes are taken for at most 4 KiB");
+    check(room_of(PATHS, SIDES_MOST, 2, SIDES_MOST - UNWRITTEN) == FIXED, "4 KiB are refused");
+    check(room_of(PATHS, 1000, 2, 1001) == DIFFERENT, "two paths may use more than 128");
+    check(room_of(PATHS, 1000, 2, 1000 - UNWRITTEN - 1) == DIFFERENT, "two paths may use any less than 128");
+    check(room_of(PATHS, 1000, PATHS, 1008) == DIFFERENT, "networks of 128 paths may differ by 8");
+}
+
+void walk_two_sides(void)
+{
+    begin("nesbrunka_two_sides");
+    find_all_sides(two_sides);
+    check(room_for_sides() == FIXED, "%s: %zu bytes for one path, at most %zu: not the same, or over %d",
+          call, found[0].used, most, SIDES_MOST);
+    lay_dense(PATHS);
+    refuse_network(two_sides);
+    tell();
+}
