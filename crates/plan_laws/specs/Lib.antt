@@ -24,5 +24,6 @@ pub mod Greedy
 pub mod Growing
 pub mod Improve
 pub mod Runs
+pub mod Passes
 pub mod Sided
 pub mod Spreading

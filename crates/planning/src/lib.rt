@@ -32,8 +32,7 @@ pub fn two_sides(n: usize, widths: &[u16], guards: &[u8], order: &mut [u8]) -> S
     }
     let mut mark = [0u8; rules::PATHS];
     if sides::find_sides(n, guards, &mut mark) {
-        sides::order_sides(n, &mark, order);
-        let low = sides::low_paths(n, &mark);
+        let low = sides::order_sides(n, &mark, order);
         return Sided {
             number: 0,
             place: 0,

@@ -3,54 +3,103 @@
 // what they promise holds for every network of these guards.
 ghost use mathlib.Core.Path.{_≡_};
 ghost use mathlib.Core.Bool.{cond, not, _&&_};
-ghost use Prim.Native.Nat.{_≤_, _<_};
+ghost use mathlib.Core.List.{List};
+ghost use Prim.Native.Nat.{ℕ, _+_, _≤_, _<_};
 ghost use lib.Dec.{ltb, eqb};
-ghost use lib.ListN.{length};
+ghost use lib.ListN.{length, set};
 ghost use Rattle.rules.specs.Tables.{at, cleared, Lent};
-ghost use Rattle.rules.specs.Scan.{found, foundPair};
+ghost use Rattle.rules.specs.Scan.{first, found, foundPair};
 ghost use Rattle.rules.specs.Plan.{netOf};
 ghost use Rattle.rules.specs.Sides.{marks, sameMark, hasSides, twoSided, lowSide};
-ghost use Rattle.table_laws.specs.Updates.{Updated};
-ghost use Rattle.plan_laws.specs.Spreading.{Spread};
+ghost use Rattle.plan_laws.specs.Spreading.{between, nextPath, askedMark, meeting, Met};
+ghost use Rattle.plan_laws.specs.Passes.{Passing, sideOf};
 
-// A value where the pair is in conflict, and otherwise what stood there.
-fn replaced(g: u8, value: u16, x: u16) -> u16
-    ensures { λ r. ⌜ r ≡ cond (ltb g 255) value x ⌝ }
+// While the sides are sought a cell of the marks holds 0 for a path not met, its mark for a marked one, and 3
+// or 4 for one that is met: it is in conflict with a marked path, and mark 1 or 2 is asked of it.
+fn is_between(low: u8, high: u8, x: u8) -> bool
+    ensures { λ r. ⌜ r ≡ between low high x ⌝ }
 {
-    if g < rules::NO_CONFLICT { value } else { x }
+    if x < low {
+        return false;
+    }
+    x <= high
 }
 
-// A value goes to the cell of each path that is in conflict with path c.
-fn spread(n: usize, c: usize, value: u16, guards: &[u8], table: &mut [u16])
-    requires { ⌜ (n ≤ 128) × ((c < n) × ((length (now guards) ≡ 16384) × (length (now table) ≡ 128))) ⌝ }
-    ensures { λ _. ⌜ Spread n (now (guards .entry)) c value (now (table .entry)) (now (table .exit)) ⌝ }
+// The first path whose cell holds one of the values from low to high; n if there is none.
+fn first_between(n: usize, low: u8, high: u8, mark: &[u8]) -> usize
+    requires { ⌜ (n ≤ 128) × (length (now mark) ≡ 128) ⌝ }
+    ensures { λ r. ⌜ r ≡ first (λ k. between low high (at (now (mark .entry)) k)) n ⌝ }
+{
+    let mut k: usize = 0;
+    while k < n {
+        if is_between(low, high, mark[k]) {
+            return k;
+        }
+        k += 1;
+    }
+    n
+}
+
+// The next path to mark: the lowest number that is met wherever there is one, else the lowest that is not.
+fn next_path(n: usize, mark: &[u8]) -> usize
+    requires { ⌜ (n ≤ 128) × (length (now mark) ≡ 128) ⌝ }
+    ensures { λ r. ⌜ r ≡ nextPath n (now (mark .entry)) ⌝ }
+{
+    let c = first_between(n, 3, 4, mark);
+    if c < n {
+        return c;
+    }
+    first_between(n, 0, 0, mark)
+}
+
+// The mark that the next path gets: what is asked of it, and 1 where it begins a connected part.
+fn asked_mark(x: u8) -> u8
+    ensures { λ r. ⌜ r ≡ askedMark x ⌝ }
+{
+    if x < 3 { 1 } else { x - 2 }
+}
+
+// What the cell of a path holds once a path has been marked to which its guard is g. A marked path keeps
+// its mark; any other is met where they are in conflict, and of its conflicts the last one asks.
+fn met(asked: u8, g: u8, x: u8) -> u8
+    ensures { λ r. ⌜ r ≡ meeting asked g x ⌝ }
+{
+    if rules::NO_CONFLICT <= g {
+        return x;
+    }
+    if is_between(1, 2, x) {
+        return x;
+    }
+    asked
+}
+
+// Path c has been marked: along its row of the guards.
+fn meet_row(n: usize, c: usize, asked: u8, guards: &[u8], mark: &mut [u8])
+    requires { ⌜ (n ≤ 128) × ((c < n) × ((length (now guards) ≡ 16384) × (length (now mark) ≡ 128))) ⌝ }
+    ensures { λ _. ⌜ Met n (now (guards .entry)) c asked (now (mark .entry)) (now (mark .exit)) ⌝ }
 {
     let mut k: usize = 0;
     while k < n {
         let g = guards[rules::PATHS * c + k];
-        let x = table[k];
-        table[k] = replaced(g, value, x);
+        let x = mark[k];
+        mark[k] = met(asked, g, x);
         k += 1;
     }
 }
 
-// The mark of each path: 1 is low, 2 is high. The next path is one in conflict with a marked path wherever
-// there is one (key 0), else the lowest number left (key 1). It gets the mark that is asked of it: the
-// other mark than such a path has, and 1 where it begins a connected part.
+// The mark of each path: 1 is low, 2 is high. A marked path asks the other mark of those in conflict with it:
+// 3 less its own, and 2 more while it is only asked.
 fn mark_sides(n: usize, guards: &[u8], mark: &mut [u8])
     requires { ⌜ (n ≤ 128) × ((length (now guards) ≡ 16384) × (now mark ≡ cleared 128 0)) ⌝ }
     ensures { λ _. ⌜ ((lent : Lent) → lent .guards ≡ now (guards .entry) → now (mark .exit)
         ≡ marks (netOf lent) n) ⌝ }
 {
-    let mut keys = [1u16; rules::PATHS];
-    let mut asked = [1u16; rules::PATHS];
     let mut m: usize = 0;
     while m < n {
-        let c = engine::least_unmarked(n, &keys, mark);
-        let s = asked[c];
-        mark[c] = s as u8;
-        spread(n, c, 0, guards, &mut keys);
-        spread(n, c, 3 - s, guards, &mut asked);
+        let c = next_path(n, mark);
+        let s = asked_mark(mark[c]);
+        mark[c] = s;
+        meet_row(n, c, 5 - s, guards, mark);
         m += 1;
     }
 }
@@ -114,52 +163,50 @@ pub fn find_sides(n: usize, guards: &[u8], mark: &mut [u8]) -> bool
 }
 
 // 1 for a high path, 0 for a low one.
-fn high_key(mark: u8) -> u16
+fn side_of(mark: u8) -> u8
     ensures { λ r. ⌜ r ≡ cond (eqb mark 2) 1 0 ⌝ }
 {
     if mark == 2 { 1 } else { 0 }
 }
 
-fn high_keys(n: usize, mark: &[u8], keys: &mut [u16])
-    requires { ⌜ (n ≤ 128) × ((length (now mark) ≡ 128) × (length (now keys) ≡ 128)) ⌝ }
-    ensures { λ _. ⌜ Updated (λ k x. cond (eqb (at (now (mark .entry)) k) 2) 1 0) (now (keys .entry))
-        (now (keys .exit)) n ⌝ }
+// Path k goes to place p of the order where it is of the side asked for; the next place.
+fn put_path(k: usize, mark: u8, side: u8, order: &mut [u8], p: usize) -> usize
+    requires { ⌜ (k < 128) × ((p ≤ 128) × (cond (eqb mark 2) 1 0 ≡ side → p < length (now order))) ⌝ }
+    ensures { λ r. ⌜ r ≡ cond (eqb (cond (eqb mark 2) 1 0) side) (p + 1) p ⌝ }
+    ensures { λ _. ⌜ now (order .exit)
+        ≡ cond (eqb (cond (eqb mark 2) 1 0) side) (set (now (order .entry)) p k) (now (order .entry)) ⌝ }
 {
-    let mut k: usize = 0;
-    while k < n {
-        keys[k] = high_key(mark[k]);
-        k += 1;
+    if side_of(mark) != side {
+        return p;
     }
+    order[p] = k as u8;
+    p + 1
 }
 
-// The two-sided order: the low paths by number, then the high ones.
-pub fn order_sides(n: usize, mark: &[u8], order: &mut [u8])
+// The paths of one side go into the order by number, from place p on; the place after them.
+fn put_side(n: usize, mark: &[u8], side: u8, order: &mut [u8], from: usize) -> usize
+    requires { ⌜ (n ≤ 128) × ((length (now mark) ≡ 128)
+        × ((before : List ℕ) × Passing (sideOf (now mark)) n before (now order) side 0 from)) ⌝ }
+    ensures { λ r. ⌜ ((before : List ℕ) → Passing (sideOf (now (mark .entry))) n before (now (order .entry)) side 0 from
+        → Passing (sideOf (now (mark .entry))) n before (now (order .exit)) side n r) ⌝ }
+{
+    let mut p: usize = from;
+    let mut k: usize = 0;
+    while k < n {
+        p = put_path(k, mark[k], side, order, p);
+        k += 1;
+    }
+    p
+}
+
+// The two-sided order, the low paths by number and then the high ones; how many are low.
+pub fn order_sides(n: usize, mark: &[u8], order: &mut [u8]) -> usize
     requires { ⌜ (n ≤ 128) × ((length (now mark) ≡ 128) × (n ≤ length (now order))) ⌝ }
+    ensures { λ r. ⌜ r ≡ lowSide n (λ k. eqb (at (now (mark .entry)) k) 2) ⌝ }
     ensures { λ _. ⌜ now (order .exit)
         ≡ twoSided n (λ k. eqb (at (now (mark .entry)) k) 2) (now (order .entry)) ⌝ }
 {
-    let mut keys = [0u16; rules::PATHS];
-    high_keys(n, mark, &mut keys);
-    engine::arrange(n, &keys, order);
-}
-
-// 1 for a low path, 0 for a high one.
-fn low_count(mark: u8) -> usize
-    ensures { λ r. ⌜ r ≡ cond (eqb mark 2) 0 1 ⌝ }
-{
-    if mark == 2 { 0 } else { 1 }
-}
-
-// How many paths are low.
-pub fn low_paths(n: usize, mark: &[u8]) -> usize
-    requires { ⌜ (n ≤ 128) × (length (now mark) ≡ 128) ⌝ }
-    ensures { λ r. ⌜ r ≡ lowSide n (λ k. eqb (at (now (mark .entry)) k) 2) ⌝ }
-{
-    let mut low: usize = 0;
-    let mut k: usize = 0;
-    while k < n {
-        low += low_count(mark[k]);
-        k += 1;
-    }
+    let low = put_side(n, mark, 0, order, 0);
+    put_side(n, mark, 1, order, low);
     low
 }

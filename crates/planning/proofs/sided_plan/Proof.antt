@@ -16,7 +16,7 @@ pack-into-requires c κs =
     let s = c .before .before .before .before .before .before .before .before .before .before .before in
     let a = s .args in
     let p = s .pre in
-    sided-packable (a .n) (lend (a .widths .now) (a .guards .now)) (a .order .now) _ (a .starts .now) (p .0) (p .1 .1 .0) (p .1 .1 .1) (order-is (a .n) (lend (a .widths .now) (a .guards .now)) (a .mark .now) (p .1 .0) (a .order .now) _ (c .before .before .before .before .order-sides .ensures))
+    sided-packable (a .n) (lend (a .widths .now) (a .guards .now)) (a .order .now) _ (a .starts .now) (p .0) (p .1 .1 .0) (p .1 .1 .1) (order-is (a .n) (lend (a .widths .now) (a .guards .now)) (a .mark .now) (p .1 .0) (a .order .now) _ (c .before .before .before .before .order-sides .ensures .1))
 
 same-length : tie.Need-same-length
 same-length c = search needs
@@ -28,7 +28,7 @@ returns : tie.Need-returns
 returns c =
     let s = c .before .before .before .before .before .before .before .before .before .before .before .before .before .before in
     let a = s .args in
-    sided-done (a .n) (lend (a .widths .now) (a .guards .now)) (a .order .now) _ (a .starts .now) _ _ (order-is (a .n) (lend (a .widths .now) (a .guards .now)) (a .mark .now) (s .pre .1 .0) (a .order .now) _ (c .before .before .before .before .before .before .before .order-sides .ensures))
+    sided-done (a .n) (lend (a .widths .now) (a .guards .now)) (a .order .now) _ (a .starts .now) _ _ (order-is (a .n) (lend (a .widths .now) (a .guards .now)) (a .mark .now) (s .pre .1 .0) (a .order .now) _ (c .before .before .before .before .before .before .before .order-sides .ensures .1))
     (c .before .before .pack-into .ensures .0) (c .before .before .pack-into .ensures .1)
 
 pub sided-plan-spec : {M : Type 1} → statement M

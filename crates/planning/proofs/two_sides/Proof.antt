@@ -47,23 +47,17 @@ order-sides-requires c κs =
     let a = c .before .before .before .before .before .before .before .before .before .before .before .before .before .args in
     (p .network .few, (marks-full (a .n) (lend (a .widths .now) (a .guards .now)) _ (c .before .before .before .before .find-sides .ensures (lend (a .widths .now) (a .guards .now)) refl .0), omega (arith, p .network .few, p .orderSize)))
 
-slice-aggregate-low-paths : tie.Need-slice-aggregate-low-paths
-slice-aggregate-low-paths c = search needs
-
-low-paths-requires : tie.Need-low-paths-requires
-low-paths-requires c κs =
-    let a = c .before .before .before .before .before .before .before .before .before .before .before .before .before .before .before .before .before .args in
-    (sidable (c .before .before .before .before .before .before .before .before .before .before) .network .few, marks-full (a .n) (lend (a .widths .now) (a .guards .now)) _ (c .before .before .before .before .before .before .before .before .find-sides .ensures (lend (a .widths .now) (a .guards .now)) refl .0))
-
 same-length : tie.Need-same-length
 same-length c = search needs
 
 returns-2 : tie.Need-returns-2
 returns-2 c =
-    let a = c .before .before .before .before .before .before .before .before .before .before .before .before .before .before .before .before .before .before .args in
-    let m = c .before .before .before .before .before .before .before .before .before .find-sides .ensures (lend (a .widths .now) (a .guards .now)) refl in
-    two-done (a .n) (lend (a .widths .now) (a .guards .now)) (a .order .now) _ (tested (c .before .before .before .before .before .before .before .before .before .before .before .before .before)) (c .before .before .before .before .before .before .before .before .before .before .before .if1 .left) (sym (m .1) ∙ c .before .before .before .before .before .before .before .if2 .taken) _ _
-    (low-is (a .n) (lend (a .widths .now) (a .guards .now)) _ (m .0) _ (c .low-paths .ensures)) (order-is (a .n) (lend (a .widths .now) (a .guards .now)) _ (m .0) (a .order .now) _ (c .before .before .before .before .order-sides .ensures))
+    let d = c .before .before .before .before .before .before .before in
+    let a = d .before .before .before .before .before .before .before .before .before .args in
+    let m = d .find-sides .ensures (lend (a .widths .now) (a .guards .now)) refl in
+    let o = c .before .before .order-sides .ensures in
+    two-done (a .n) (lend (a .widths .now) (a .guards .now)) (a .order .now) _ (tested (d .before .before .before .before)) (d .before .before .if1 .left) (sym (m .1) ∙ c .before .before .before .before .before .if2 .taken) _ _
+    (low-is (a .n) (lend (a .widths .now) (a .guards .now)) _ (m .0) _ (o .0)) (order-is (a .n) (lend (a .widths .now) (a .guards .now)) _ (m .0) (a .order .now) _ (o .1))
 
 returns-3 : tie.Need-returns-3
 returns-3 c =
@@ -81,8 +75,6 @@ two-sides-spec =
     find-sides-requires
     slice-aggregate-order-sides
     order-sides-requires
-    slice-aggregate-low-paths
-    low-paths-requires
     same-length
     returns-2
     returns-3)

@@ -1,38 +1,39 @@
-use mathlib.Core.Path.{_∙_}
-use Rattle.rules.specs.Sides.{twoSided}
-use Rattle.plan_laws.specs.Arranged.{arranged-keys}
 use borrow.Author.Needs.{needs}
+use mathlib.Core.Path.{refl}
+use Rattle.plan_laws.specs.Passes.{Passing, sideOf, passing-first, passing-next, passing-low, passing-last}
 use Rattle.sides.proofs.order_sides.Statement.{statement}
 use Rattle.sides.proofs.order_sides.Tie as tie
 
-slice-aggregate-high-keys : tie.Need-slice-aggregate-high-keys
-slice-aggregate-high-keys c = search needs
+-- the low paths are in the order
+low-put : (c : tie.After-put-side) → let s = c .before .before .before .before in Passing (sideOf (s .args .mark .now)) (s .args .n) (s .args .order .now) (c .put-side .last .1 .1 .1 .0) 1 0 (c .put-side .result)
+low-put c =
+    let s = c .before .before .before .before in
+    let key = sideOf (s .args .mark .now) in
+    passing-next key (s .args .n) (s .args .order .now) _ 0 (s .args .n) (c .put-side .result) (c .put-side .ensures (s .args .order .now) (passing-first key (s .args .n) (s .args .order .now) (s .pre .1 .1))) refl
 
-high-keys-requires : tie.Need-high-keys-requires
-high-keys-requires c κs = search needs
+put-side-requires : tie.Need-put-side-requires
+put-side-requires c κs =
+    let s = c .before .before .before in
+    (s .pre .0, (s .pre .1 .0, (s .args .order .now, passing-first (sideOf (s .args .mark .now)) (s .args .n) (s .args .order .now) (s .pre .1 .1))))
 
-slice-aggregate-arrange : tie.Need-slice-aggregate-arrange
-slice-aggregate-arrange c = search needs
-
-arrange-requires : tie.Need-arrange-requires
-arrange-requires c κs = search needs
+put-side-requires-2 : tie.Need-put-side-requires-2
+put-side-requires-2 c κs =
+    let s = c .before .before .before .before .before .before .before in
+    (s .pre .0, (s .pre .1 .0, (s .args .order .now, low-put (c .before .before .before))))
 
 same-length : tie.Need-same-length
 same-length c = search needs
 
 returns : tie.Need-returns
-unfolding twoSided
-returns c = let s = c .before .before .before .before .before .before .before .before .before .before in
-    let u = c .before .before .before .before .before .before .high-keys .ensures in
-    c .before .before .arrange .ensures ∙ arranged-keys _ _ (s .args .n) (s .args .order .now) (λ t i k l. u .done k l) (s .args .n)
+returns c =
+    let s = c .before .before .before .before .before .before .before .before .before .before in
+    let a = s .args in
+    let d = c .before .before .before .before .before .before in
+    let l = low-put d in (
+      passing-low (a .n) (a .mark .now) (a .order .now) _ (d .put-side .result) l,
+      passing-last (a .n) (a .mark .now) (a .order .now) _ (c .before .before .put-side2 .result)
+          (passing-next (sideOf (a .mark .now)) (a .n) (a .order .now) _ 1 (a .n) (c .before .before .put-side2 .result) (c .before .before .put-side2 .ensures (a .order .now) l) refl),
+    )
 
 pub order-sides-spec : {M : Type 1} → statement M
-order-sides-spec =
-    tie.close
-    (tie.spec
-    slice-aggregate-high-keys
-    high-keys-requires
-    slice-aggregate-arrange
-    arrange-requires
-    same-length
-    returns)
+order-sides-spec = tie.close (tie.spec put-side-requires put-side-requires-2 same-length returns)
