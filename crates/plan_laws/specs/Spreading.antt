@@ -94,15 +94,15 @@ between-is low high x = go (leb low x) refl (leb x high) refl
     go false e b f h = absurd (true≢false (sym h))
 
 -- a marked path is spared, and any other is met where it is in conflict
-spared : (asked g x : ℕ) → Side x → meeting asked g x ≡ x
+pub spared : (asked g x : ℕ) → between 1 2 x ≡ true → meeting asked g x ≡ x
 unfolding meeting
-spared asked g x s = rw (between-yes 1 2 x (s .0) (s .1)) (go (ltb g 255))
+spared asked g x e = rw e (go (ltb g 255))
   where
     go : (b : Bool) → cond (b && false) asked x ≡ x
     go true = refl
     go false = refl
 
-not-spared : (asked g x : ℕ) → between 1 2 x ≡ false → meeting asked g x ≡ cond (ltb g 255) asked x
+pub not-spared : (asked g x : ℕ) → between 1 2 x ≡ false → meeting asked g x ≡ cond (ltb g 255) asked x
 unfolding meeting
 not-spared asked g x e = rw e (go (ltb g 255))
   where
@@ -345,12 +345,12 @@ module _ (n : ℕ) (lent : Lent) (few : n ≤ 128) where
         after-told : (k : ℕ) → k < n → Dec (c ≡ k) → after k (at (set table c s) k) ≡ told net (mark (suc m)) o (suc m) k
         unfolding told
         after-told k h (yes q) =
-            rw (← q, ← placed-hit o m c (sym next), at-same table c s (omega (arith, p .full, spreading-below)), mine) (spared (5 - s) (at (lent .guards) (cell c c)) s spreading-side)
+            rw (← q, ← placed-hit o m c (sym next), at-same table c s (omega (arith, p .full, spreading-below)), mine) (spared (5 - s) (at (lent .guards) (cell c c)) s (between-yes 1 2 s (spreading-side .0) (spreading-side .1)))
         after-told k h (no ne) = rw (at-other table c s k (λ q. ne (sym q))) (go (telling k h))
           where
             go : Told net (mark m) o m k (at table k) → after k (at table k) ≡ told net (mark (suc m)) o (suc m) k
             go (marked f x r) =
-                spared (5 - s) (at (lent .guards) (cell c k)) (at table k) r
+                spared (5 - s) (at (lent .guards) (cell c k)) (at table k) (between-yes 1 2 (at table k) (r .0) (r .1))
                 ∙ rw (← placed-miss o m k true (sym f) (λ q. ne (next ∙ q))) (x ∙ sym (old k ne))
             go (met f t x r) = after-other k ne f (between-high 1 2 (at table k) (omega (arith, r))) (rw t x)
             go (unmet f t x) = after-other k ne f (between-low 1 2 (at table k) (omega (arith, x))) (rw t x)

@@ -104,13 +104,10 @@ fn mark_sides(n: usize, guards: &[u8], mark: &mut [u8])
     }
 }
 
-// The pair of i and j, i<j, is in conflict and has one mark.
-fn is_alike(i: usize, j: usize, g: u8, a: u8, b: u8) -> bool
-    ensures { λ r. ⌜ r ≡ (ltb i j && (ltb g 255 && eqb a b)) ⌝ }
+// Two paths of guard g and of these marks are in conflict and have one mark.
+fn is_alike(g: u8, a: u8, b: u8) -> bool
+    ensures { λ r. ⌜ r ≡ (ltb g 255 && eqb a b) ⌝ }
 {
-    if j <= i {
-        return false;
-    }
     if rules::NO_CONFLICT <= g {
         return false;
     }
@@ -125,11 +122,11 @@ fn row_alike(n: usize, i: usize, guards: &[u8], mark: &[u8]) -> bool
 {
     let a = mark[i];
     let mut any = false;
-    let mut j: usize = 0;
+    let mut j: usize = i + 1;
     while j < n {
         let g = guards[rules::PATHS * i + j];
         let b = mark[j];
-        let x = is_alike(i, j, g, a, b);
+        let x = is_alike(g, a, b);
         any = tables::either(any, x);
         j += 1;
     }

@@ -7,10 +7,7 @@ returns : tie.Need-returns
 returns c = rw (le-ltb _ _ (c .if1 .taken))
 
 returns-2 : tie.Need-returns-2
-returns-2 c = rw (lt-ltb (c .before .before .args .i) (c .before .before .args .j) (omega arith), le-ltb (c .before .before .args .g) 255 (c .if2 .taken))
-
-returns-3 : tie.Need-returns-3
-returns-3 c = rw (lt-ltb (c .before .before .args .i) (c .before .before .args .j) (omega arith), lt-ltb (c .before .before .args .g) 255 (omega arith))
+returns-2 c = rw (lt-ltb (c .before .args .g) 255 (omega arith))
 
 pub is-alike-spec : {M : Type 1} → statement M
-is-alike-spec = tie.close (tie.spec returns returns-2 returns-3)
+is-alike-spec = tie.close (tie.spec returns returns-2)
