@@ -6,44 +6,31 @@ use mathlib.Core.Bool.{true, false, not}
 use mathlib.Core.List.{List}
 use native.Mathlib.Omega.{arith}
 use lib.ListN.{length}
-use lib.Dec.{ltb, eqb}
+use lib.Dec.{ltb}
 use borrow.Author.Tests.{ltb-false}
 use Rattle.rules.specs.declared.Fault.{Fault}
 use Rattle.rules.specs.declared.Planned.{Planned}
 use Rattle.rules.specs.declared.Floored.{Floored}
-use Rattle.rules.specs.Tables.{at, cleared, Lent}
+use Rattle.rules.specs.Tables.{at, Lent}
 use Rattle.rules.specs.Limits.{Network}
-use Rattle.rules.specs.Plan.{netOf, highest}
-use Rattle.rules.specs.Packing.{lowest, packed}
-use Rattle.rules.specs.Sides.{opposite, marks, isHigh, hasSides, twoSided, lowSide}
+use Rattle.rules.specs.Plan.{netOf}
+use Rattle.rules.specs.Packing.{lowest}
+use Rattle.rules.specs.Sides.{isHigh, hasSides, twoSided}
 use Rattle.rules.specs.Planning.{Run, startNext, greedy, improved}
 use Rattle.rules.specs.Floor.{floor}
 use Rattle.rules.specs.Numbers.{fault, _orElse_, sizeFault, planSizes, lentFault, packFault, sidesFault, roundsFault, twoSidesFault, planFault, improveFault, floorFault}
 use Rattle.rules.specs.Calls.{left, siding, refusedPlanned, donePlanned, doneImproved, improving, donePlan, planning, flooring}
 use Rattle.table_laws.specs.Faults.{refuse-bad, refuse-clear, or-clear, or-stop, size-clear}
 use Rattle.table_laws.specs.Chains.{number-of, lent-clear}
-use Rattle.table_laws.specs.Tables.{cleared-length}
-use Rattle.plan_laws.specs.Pack.{packed-length}
-use Rattle.plan_laws.specs.Sided.{opposite-local, sided-length, sided-order}
+use Rattle.plan_laws.specs.Sided.{sided-length, sided-order}
 use Rattle.plan_laws.specs.Arranged.{arranged-order, arranged-length}
 use Rattle.plan_laws.specs.Answers.{unless-done, unless-refused, Packable, pack-clear, Sidable, clear-sides, sidable-siding, Plannable, plan-clear, Floorable, floor-clear}
 use Rattle.plan_laws.specs.Runs.{run-packable}
+use Rattle.sides.specs.declared.Split.{Split}
+use Rattle.sides.specs.Split.{SplitIs, split-yes, split-no}
 use Rattle.rounds.specs.declared.Standing.{Standing}
 use Rattle.rounds.specs.Standing.{runOf}
-
--- the marks of the sides: a full table, the two-sided order and the size of the low side
-module _ (n : ℕ) (lent : Lent) (mark : List ℕ) (e : mark ≡ marks (netOf lent) n) where
-  pub marks-full : length mark ≡ 128
-  unfolding marks
-  marks-full = ap length e ∙ packed-length (opposite (netOf lent)) (opposite-local (netOf lent)) _ (cleared 128 0) n ∙ cleared-length 128 0
-
-  pub order-is : (order after : List ℕ) → after ≡ twoSided n (λ k. eqb (at mark k) 2) order → after ≡ twoSided n (isHigh (netOf lent) n) order
-  unfolding isHigh
-  order-is order after h = rw e at h
-
-  pub low-is : (low : ℕ) → low ≡ lowSide n (λ k. eqb (at mark k) 2) → low ≡ lowSide n (isHigh (netOf lent) n)
-  unfolding isHigh
-  low-is low h = rw e at h
+use Rattle.planning.specs.Chosen.{Chosen}
 
 -- the two-sided call
 module _ (n : ℕ) (lent : Lent) (order : List ℕ) (f : Fault) (e : f ≡ lentFault n lent (sizeFault order 128)) where
@@ -58,15 +45,18 @@ module _ (n : ℕ) (lent : Lent) (order : List ℕ) (f : Fault) (e : f ≡ lentF
       let w = lent-clear n lent (sizeFault order 128) (number-of e z) in
       record { network = w .0; orderSize = size-clear order 128 (w .1) }
 
-  pub two-done : f .number ≡ 0 → hasSides (netOf lent) n ≡ true → (low : ℕ) (after : List ℕ) → low ≡ lowSide n (isHigh (netOf lent) n) → after ≡ twoSided n (isHigh (netOf lent) n) order
-      → left (record { number = 0; place = 0; low = low }) after ≡ siding n lent order
-  two-done z h low after a b = rw (a, b) (sym (sidable-siding n lent order (two-clear z) h))
+  module _ (z : f .number ≡ 0) (split : Split) (after : List ℕ) (d : SplitIs (netOf lent) n order split after) where
+    pub two-done : split .found ≡ true → left (record { number = 0; place = 0; low = split .low }) after ≡ siding n lent order
+    two-done h =
+        let g = split-yes (netOf lent) n order split after d h in
+        rw (g .1 .0, g .1 .1) (sym (sidable-siding n lent order (two-clear z) (g .0)))
 
-  pub two-none : f .number ≡ 0 → hasSides (netOf lent) n ≡ false → left (record { number = 9; place = 0; low = 0 }) order ≡ siding n lent order
-  unfolding siding sidesFault
-  two-none z h =
-      let g : twoSidesFault n lent order ≡ fault 9 0 = clear-sides n lent order (two-clear z) ∙ refuse-bad (not (hasSides (netOf lent) n)) 9 0 (ap not h) in
-      sym (unless-refused (twoSidesFault n lent order) _ _ (λ y. omega (arith, ap (λ (x : Fault). x .number) g)) ∙ rw g)
+    pub two-none : split .found ≡ false → left (record { number = 9; place = 0; low = 0 }) after ≡ siding n lent order
+    unfolding siding sidesFault
+    two-none h =
+        let q = split-no (netOf lent) n order split after d h in
+        let g : twoSidesFault n lent order ≡ fault 9 0 = clear-sides n lent order (two-clear z) ∙ refuse-bad (not (hasSides (netOf lent) n)) 9 0 (ap not (q .0)) in
+        rw (q .1) (sym (unless-refused (twoSidesFault n lent order) _ _ (λ y. omega (arith, ap (λ (x : Fault). x .number) g)) ∙ rw g))
 
 -- improving
 module _ (n : ℕ) (lent : Lent) (order starts : List ℕ) (seed rounds : ℕ) where
@@ -75,11 +65,10 @@ module _ (n : ℕ) (lent : Lent) (order starts : List ℕ) (seed rounds : ℕ) w
   improved-packable p s after e =
       subst (λ (o : List ℕ). Packable n lent o starts) (sym (ap (λ (r : Run). r .order) e)) (run-packable n lent order starts seed p rounds)
 
-  pub improved-done : (s : Standing) (after slots : List ℕ) (h : ℕ) → runOf s after ≡ improved (netOf lent) n (lowest (netOf lent)) starts order seed rounds
-      → h ≡ highest (netOf lent) (at slots) n → slots ≡ packed (lowest (netOf lent)) (at after) starts n
-      → left (record { number = 0; place = 0; highest = h; kept = s .kept }) (after, slots) ≡ doneImproved (netOf lent) n order starts seed rounds
-  unfolding doneImproved donePlanned
-  improved-done s after slots h e a b = rw (← e, a, b)
+  pub improved-done : (s : Standing) (after : List ℕ) → runOf s after ≡ improved (netOf lent) n (lowest (netOf lent)) starts order seed rounds
+      → donePlanned (netOf lent) n after starts (s .kept) ≡ doneImproved (netOf lent) n order starts seed rounds
+  unfolding doneImproved
+  improved-done s after e = rw (← e)
 
   module _ (f g : Fault) (e : f ≡ (g orElse roundsFault rounds)) (d : g ≡ packFault n lent order starts) where
     tested : f ≡ improveFault n lent order starts rounds
@@ -120,22 +109,25 @@ module _ (n : ℕ) (lent : Lent) (order after starts : List ℕ) (w : Network n 
         whole = arranged-order (startNext (lowest (netOf lent)) starts) n order (omega (arith, w .few)) n (omega arith);
       }
 
-pub sided-done : (n : ℕ) (lent : Lent) (order after starts slots : List ℕ) (h : ℕ) → after ≡ twoSided n (isHigh (netOf lent) n) order
-    → h ≡ highest (netOf lent) (at slots) n → slots ≡ packed (lowest (netOf lent)) (at after) starts n
-    → left (record { number = 0; place = 0; highest = h; kept = 0 }) (after, slots) ≡ donePlanned (netOf lent) n (twoSided n (isHigh (netOf lent) n) order) starts 0
-unfolding donePlanned
-sided-done n lent order after starts slots h e a b = rw (← e, a, b)
-
 module _ (n : ℕ) (lent : Lent) (order starts : List ℕ) (seed rounds : ℕ) where
   -- the choice by the sides
-  module _ (r : Planned) (t : List ℕ × List ℕ) where
-    pub chosen-sided : hasSides (netOf lent) n ≡ true → left r t ≡ donePlanned (netOf lent) n (twoSided n (isHigh (netOf lent) n) order) starts 0 → left r t ≡ donePlan (netOf lent) n order starts seed rounds
+  module _ (w : Network n lent) (full : length order ≡ 128) (space : length starts ≡ 128) (split : Split) (after : List ℕ) (d : SplitIs (netOf lent) n order split after) where
+    pub chosen-sided : split .found ≡ true → Chosen n lent order starts seed rounds 0 after
     unfolding donePlan
-    chosen-sided h a = rw h a
+    chosen-sided h =
+        let g = split-yes (netOf lent) n order split after d h in
+        record { packable = sided-packable n lent order after starts w full space (g .1 .1); done = rw (g .0, g .1 .1) }
 
-    pub chosen-greedy : hasSides (netOf lent) n ≡ false → (after : List ℕ) → after ≡ greedy (lowest (netOf lent)) n starts order n → left r t ≡ doneImproved (netOf lent) n after starts seed rounds → left r t ≡ donePlan (netOf lent) n order starts seed rounds
+    pub chosen-greedy : split .found ≡ false → (first last : List ℕ) (s : Standing) → first ≡ greedy (lowest (netOf lent)) n starts after n
+        → runOf s last ≡ improved (netOf lent) n (lowest (netOf lent)) starts first seed rounds → Chosen n lent order starts seed rounds (s .kept) last
     unfolding donePlan
-    chosen-greedy h after b a = rw (h, ← b) a
+    chosen-greedy h first last s e r =
+        let g = split-no (netOf lent) n order split after d h in
+        let q : first ≡ greedy (lowest (netOf lent)) n starts order n = rw (g .1) at e in
+        record {
+          packable = improved-packable n lent first starts seed rounds (greedy-packable n lent order first starts w full space q) s last r;
+          done = improved-done n lent first starts seed rounds s last r ∙ rw (g .0, ← q);
+        }
 
   module _ (f g s : Fault) (e : f ≡ (g orElse roundsFault rounds)) (d : g ≡ lentFault n lent s) (q : s ≡ planSizes order starts) where
     accepted : f ≡ planFault n lent order starts rounds

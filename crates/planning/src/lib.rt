@@ -6,15 +6,16 @@ use rules::Floored;
 use rules::Planned;
 use rules::Sided;
 ghost use mathlib.Core.Path.{_≡_};
-ghost use Prim.Native.Nat.{_≤_};
+ghost use mathlib.Core.List.{List};
+ghost use Prim.Native.Nat.{ℕ, _≤_};
 ghost use lib.ListN.{length};
 ghost use Rattle.rules.specs.Tables.{lend};
 ghost use Rattle.rules.specs.Limits.{Network};
 ghost use Rattle.rules.specs.Plan.{netOf};
-ghost use Rattle.rules.specs.Sides.{marks, isHigh, twoSided};
 ghost use Rattle.rules.specs.Numbers.{_orElse_, roundsFault, floorFault};
-ghost use Rattle.rules.specs.Calls.{left, siding, donePlanned, doneImproved, improving, donePlan, planning, flooring};
-ghost use Rattle.plan_laws.specs.Answers.{Packable, Plannable};
+ghost use Rattle.rules.specs.Calls.{left, siding, donePlanned, improving, planning, flooring};
+ghost use Rattle.plan_laws.specs.Answers.{Packable};
+ghost use Rattle.planning.specs.Chosen.{Chosen};
 
 // Finds the two sides: the two-sided order goes into its table, and the size of the low side is answered.
 pub fn two_sides(n: usize, widths: &[u16], guards: &[u8], order: &mut [u8]) -> Sided
@@ -30,13 +31,12 @@ pub fn two_sides(n: usize, widths: &[u16], guards: &[u8], order: &mut [u8]) -> S
             low: 0,
         };
     }
-    let mut mark = [0u8; rules::PATHS];
-    if sides::find_sides(n, guards, &mut mark) {
-        let low = sides::order_sides(n, &mark, order);
+    let split = sides::sided_order(n, guards, order);
+    if split.found {
         return Sided {
             number: 0,
             place: 0,
-            low: low,
+            low: split.low,
         };
     }
     Sided {
@@ -59,28 +59,27 @@ fn then_rounds(f: Fault, rounds: usize) -> Fault
     tables::accepted()
 }
 
-// An order that the tests have accepted, improved; its starts go into their table, once.
-fn improved_plan(
+// An order that the tests have accepted or planning has made, after so many swaps kept: its starts go into their
+// table, once.
+fn packed_plan(
     n: usize,
     widths: &[u16],
     guards: &[u8],
-    order: &mut [u8],
+    order: &[u8],
     starts: &mut [u16],
-    seed: u32,
-    rounds: usize,
+    kept: usize,
 ) -> Planned
-    requires { ⌜ Packable n (lend (now widths) (now guards)) (now order) (now starts) × (rounds ≤ 10000) ⌝ }
-    ensures { λ r. ⌜ left r (now (order .exit), now (starts .exit))
-        ≡ doneImproved (netOf (lend (now (widths .entry)) (now (guards .entry)))) n (now (order .entry))
-        (now (starts .entry)) seed rounds ⌝ }
+    requires { ⌜ Packable n (lend (now widths) (now guards)) (now order) (now starts) ⌝ }
+    ensures { λ r. ⌜ left r (now (order .entry), now (starts .exit))
+        ≡ donePlanned (netOf (lend (now (widths .entry)) (now (guards .entry)))) n (now (order .entry))
+        (now (starts .entry)) kept ⌝ }
 {
-    let run = rounds::improve_order(n, widths, guards, order, seed, rounds);
     let h = engine::pack_into(n, widths, guards, order, starts);
     Planned {
         number: 0,
         place: 0,
         highest: h,
-        kept: run.kept,
+        kept: kept,
     }
 }
 
@@ -109,57 +108,32 @@ pub fn improve(
             kept: 0,
         };
     }
-    improved_plan(n, widths, guards, order, starts, seed, rounds)
+    let run = rounds::improve_order(n, widths, guards, order, seed, rounds);
+    packed_plan(n, widths, guards, order, starts, run.kept)
 }
 
-// The two-sided order of a network that has sides, packed: no rounds are run and none is kept.
-fn sided_plan(
-    n: usize,
-    widths: &[u16],
-    guards: &[u8],
-    mark: &[u8],
-    order: &mut [u8],
-    starts: &mut [u16],
-) -> Planned
-    requires { ⌜ Network n (lend (now widths) (now guards))
-        × ((now mark ≡ marks (netOf (lend (now widths) (now guards))) n)
-        × ((length (now order) ≡ 128) × (length (now starts) ≡ 128))) ⌝ }
-    ensures { λ r. ⌜ left r (now (order .exit), now (starts .exit))
-        ≡ donePlanned (netOf (lend (now (widths .entry)) (now (guards .entry)))) n
-        (twoSided n (isHigh (netOf (lend (now (widths .entry)) (now (guards .entry)))) n)
-        (now (order .entry))) (now (starts .entry)) 0 ⌝ }
-{
-    sides::order_sides(n, mark, order);
-    let h = engine::pack_into(n, widths, guards, order, starts);
-    Planned {
-        number: 0,
-        place: 0,
-        highest: h,
-        kept: 0,
-    }
-}
-
-// The two-sided order where there are sides, else the greedy order, improved.
-fn chosen_plan(
+// The order of a plan, and the number of swaps kept for it: with two sides the two-sided order, and no rounds are
+// run; else the greedy order, improved.
+fn chosen_order(
     n: usize,
     widths: &[u16],
     guards: &[u8],
     order: &mut [u8],
-    starts: &mut [u16],
     seed: u32,
     rounds: usize,
-) -> Planned
-    requires { ⌜ Plannable n (lend (now widths) (now guards)) (now order) (now starts) seed rounds ⌝ }
-    ensures { λ r. ⌜ left r (now (order .exit), now (starts .exit))
-        ≡ donePlan (netOf (lend (now (widths .entry)) (now (guards .entry)))) n (now (order .entry))
-        (now (starts .entry)) seed rounds ⌝ }
+) -> usize
+    requires { ⌜ Network n (lend (now widths) (now guards)) × ((length (now order) ≡ 128) × (rounds ≤ 10000)) ⌝ }
+    ensures { λ r. ⌜ ((starts : List ℕ) → length starts ≡ 128
+        → Chosen n (lend (now (widths .entry)) (now (guards .entry))) (now (order .entry)) starts seed rounds r
+        (now (order .exit))) ⌝ }
 {
-    let mut mark = [0u8; rules::PATHS];
-    if sides::find_sides(n, guards, &mut mark) {
-        return sided_plan(n, widths, guards, &mark, order, starts);
+    let split = sides::sided_order(n, guards, order);
+    if split.found {
+        return 0;
     }
     greedy::greedy_order(n, widths, guards, order);
-    improved_plan(n, widths, guards, order, starts, seed, rounds)
+    let run = rounds::improve_order(n, widths, guards, order, seed, rounds);
+    run.kept
 }
 
 // Plans: the order and its starts go into their tables, whose contents are not tested; its highest slot and
@@ -188,7 +162,8 @@ pub fn plan(
             kept: 0,
         };
     }
-    chosen_plan(n, widths, guards, order, starts, seed, rounds)
+    let kept = chosen_order(n, widths, guards, order, seed, rounds);
+    packed_plan(n, widths, guards, order, starts, kept)
 }
 
 // The tests of the floor: 2, 1, 3, 4, 5, 15.

@@ -13,6 +13,7 @@ ghost use Rattle.rules.specs.Plan.{netOf};
 ghost use Rattle.rules.specs.Sides.{marks, sameMark, hasSides, twoSided, lowSide};
 ghost use Rattle.plan_laws.specs.Spreading.{between, nextPath, askedMark, meeting, Met};
 ghost use Rattle.plan_laws.specs.Passes.{Passing, sideOf};
+ghost use Rattle.sides.specs.Split.{SplitIs};
 
 // While the sides are sought a cell of the marks holds 0 for a path not met, its mark for a marked one, and 3
 // or 4 for one that is met: it is in conflict with a marked path, and mark 1 or 2 is asked of it.
@@ -150,7 +151,7 @@ fn are_sides(n: usize, guards: &[u8], mark: &[u8]) -> bool
 }
 
 // Marks each path of a cleared table, and tells whether the marks are two sides.
-pub fn find_sides(n: usize, guards: &[u8], mark: &mut [u8]) -> bool
+fn find_sides(n: usize, guards: &[u8], mark: &mut [u8]) -> bool
     requires { ⌜ (n ≤ 128) × ((length (now guards) ≡ 16384) × (now mark ≡ cleared 128 0)) ⌝ }
     ensures { λ r. ⌜ ((lent : Lent) → lent .guards ≡ now (guards .entry)
         → (now (mark .exit) ≡ marks (netOf lent) n) × (r ≡ hasSides (netOf lent) n)) ⌝ }
@@ -197,7 +198,7 @@ fn put_side(n: usize, mark: &[u8], side: u8, order: &mut [u8], from: usize) -> u
 }
 
 // The two-sided order, the low paths by number and then the high ones; how many are low.
-pub fn order_sides(n: usize, mark: &[u8], order: &mut [u8]) -> usize
+fn order_sides(n: usize, mark: &[u8], order: &mut [u8]) -> usize
     requires { ⌜ (n ≤ 128) × ((length (now mark) ≡ 128) × (n ≤ length (now order))) ⌝ }
     ensures { λ r. ⌜ r ≡ lowSide n (λ k. eqb (at (now (mark .entry)) k) 2) ⌝ }
     ensures { λ _. ⌜ now (order .exit)
@@ -206,4 +207,28 @@ pub fn order_sides(n: usize, mark: &[u8], order: &mut [u8]) -> usize
     let low = put_side(n, mark, 0, order, 0);
     put_side(n, mark, 1, order, low);
     low
+}
+
+// Whether there are two sides, and the size of the low one.
+pub struct Split {
+    pub found: bool,
+    pub low: usize,
+}
+
+// The two-sided order, where there are two sides; else the order stays as it was. The marks are all that is held for
+// it: one byte a path, whatever the conflicts are.
+pub fn sided_order(n: usize, guards: &[u8], order: &mut [u8]) -> Split
+    requires { ⌜ (n ≤ 128) × ((length (now guards) ≡ 16384) × (n ≤ length (now order))) ⌝ }
+    ensures { λ r. ⌜ ((lent : Lent) → lent .guards ≡ now (guards .entry)
+        → SplitIs (netOf lent) n (now (order .entry)) r (now (order .exit))) ⌝ }
+{
+    let mut mark = [0u8; rules::PATHS];
+    if find_sides(n, guards, &mut mark) {
+        let low = order_sides(n, &mark, order);
+        return Split { found: true, low };
+    }
+    Split {
+        found: false,
+        low: 0,
+    }
 }

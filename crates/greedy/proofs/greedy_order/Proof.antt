@@ -105,9 +105,10 @@ loop-again c =
     let d = c .before .before .before .before in
     let h = d .before .before .before in
     let s = d .before .before .before .before .before .before .before .before .before .before in
-    let u = c .before .place .ensures .1 in
-    (update-set _ _ _ _ _ _ _ u (h .loop .inv .0),
-    λ table l. growing-more (s .args .n) (lend (s .args .widths .now) (s .args .guards .now)) (s .args .order .now) table (s .pre .0) (s .pre .1) l (h .loop .order) (h .loop .need) (h .loop .m) (h .loop .inv .1 table l) (d .before .before .loop-test .taken) (d .least-key .result) (d .least-key .ensures) _ _ refl (omega (arith, turn d)) u)
+    let u = c .before .place .ensures .1 in (
+      update-set _ _ _ _ _ _ _ u (h .loop .inv .0),
+      λ table l. growing-more (s .args .n) (lend (s .args .widths .now) (s .args .guards .now)) (s .args .order .now) table (s .pre .0) (s .pre .1) l (h .loop .order) (h .loop .need) (h .loop .m) (h .loop .inv .1 table l) (d .before .before .loop-test .taken) (d .least-key .result) (d .least-key .ensures) _ _ refl (omega (arith, turn d)) u,
+    )
 
 same-length : tie.Need-same-length Inv-loop μ-loop
 same-length c = so-far (c .before) .long

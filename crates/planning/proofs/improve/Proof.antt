@@ -1,6 +1,8 @@
-use mathlib.Core.Path.{refl}
+use mathlib.Core.Path.{_≡_, refl, _∙_}
+use Prim.Native.Nat.{_≤_}
 use Rattle.rules.specs.Tables.{lend}
-use Rattle.planning.proofs.Outcomes.{improve-refused, improve-clear, improve-done}
+use Rattle.plan_laws.specs.Answers.{Packable}
+use Rattle.planning.proofs.Outcomes.{improved-packable, improved-done, improve-refused, improve-clear, improve-done}
 use borrow.Author.Needs.{needs}
 use Rattle.planning.proofs.improve.Statement.{statement}
 use Rattle.planning.proofs.improve.Tie as tie
@@ -19,10 +21,20 @@ returns c =
     let a = c .before .before .before .before .before .before .before .before .before .args in
     improve-refused (a .n) (lend (a .widths .now) (a .guards .now)) (a .order .now) (a .starts .now) (a .seed) (a .rounds) _ _ (c .before .before .then-rounds .ensures) (c .before .before .before .pack-fault .ensures (a .starts .now) refl) (c .if1 .taken)
 
-improved-plan-requires : tie.Need-improved-plan-requires
-improved-plan-requires c κs =
-    let a = c .before .before .before .before .before .before .before .before .before .before .before .args in
-    improve-clear (a .n) (lend (a .widths .now) (a .guards .now)) (a .order .now) (a .starts .now) (a .seed) (a .rounds) _ _ (c .before .before .before .before .then-rounds .ensures) (c .before .before .before .before .before .pack-fault .ensures (a .starts .now) refl) (c .before .before .if1 .left)
+-- what the tests have accepted
+clear : (c : tie.Else1) → let a = c .before .before .before .before .before .before .before .before .before .args in Packable (a .n) (lend (a .widths .now) (a .guards .now)) (a .order .now) (a .starts .now) × (a .rounds ≤ 10000)
+clear c =
+    let a = c .before .before .before .before .before .before .before .before .before .args in
+    improve-clear (a .n) (lend (a .widths .now) (a .guards .now)) (a .order .now) (a .starts .now) (a .seed) (a .rounds) _ _ (c .before .before .then-rounds .ensures) (c .before .before .before .pack-fault .ensures (a .starts .now) refl) (c .if1 .left)
+
+improve-order-requires : tie.Need-improve-order-requires
+improve-order-requires c κs = let p = clear (c .before) in (record { network = p .0 .network; fullOrder = p .0 .orderSize; whole = p .0 .whole }, p .1)
+
+packed-plan-requires : tie.Need-packed-plan-requires
+packed-plan-requires c κs =
+    let a = c .before .before .before .before .before .before .before .before .before .before .before .before .before .before .before .args in
+    let p = clear (c .before .before .before .before .before .before) .0 in
+    improved-packable (a .n) (lend (a .widths .now) (a .guards .now)) (a .order .now) (a .starts .now) (a .seed) (a .rounds) p (c .before .before .before .before .improve-order .result) _ (c .before .before .before .before .improve-order .ensures (a .starts .now) (p .startsSize))
 
 same-length-2 : tie.Need-same-length-2
 same-length-2 c = search needs
@@ -32,9 +44,10 @@ same-length-3 c = search needs
 
 returns-2 : tie.Need-returns-2
 returns-2 c =
-    let a = c .before .before .before .before .before .before .before .before .before .before .before .before .before .before .before .before .args in
-    improve-done (a .n) (lend (a .widths .now) (a .guards .now)) (a .order .now) (a .starts .now) (a .seed) (a .rounds) _ _ (c .before .before .before .before .before .before .before .before .before .then-rounds .ensures) (c .before .before .before .before .before .before .before .before .before .before .pack-fault .ensures (a .starts .now) refl) (c .before .before .before .before .before .before .before .if1 .left)
-    _ _ (c .before .before .before .before .improved-plan .ensures)
+    let a = c .before .before .before .before .before .before .before .before .before .before .before .before .before .before .before .before .before .before .args in
+    let e = c .before .before .before .before .before .before .before .improve-order .ensures (a .starts .now) (clear (c .before .before .before .before .before .before .before .before .before) .0 .startsSize) in
+    improve-done (a .n) (lend (a .widths .now) (a .guards .now)) (a .order .now) (a .starts .now) (a .seed) (a .rounds) _ _ (c .before .before .before .before .before .before .before .before .before .before .before .then-rounds .ensures) (c .before .before .before .before .before .before .before .before .before .before .before .before .pack-fault .ensures (a .starts .now) refl) (c .before .before .before .before .before .before .before .before .before .if1 .left)
+    _ _ (c .before .before .packed-plan .ensures ∙ improved-done (a .n) (lend (a .widths .now) (a .guards .now)) (a .order .now) (a .starts .now) (a .seed) (a .rounds) (c .before .before .before .before .before .before .before .improve-order .result) _ e)
 
 pub improve-spec : {M : Type 1} → statement M
 improve-spec =
@@ -44,7 +57,8 @@ improve-spec =
     then-rounds-requires
     same-length
     returns
-    improved-plan-requires
+    improve-order-requires
+    packed-plan-requires
     same-length-2
     same-length-3
     returns-2)

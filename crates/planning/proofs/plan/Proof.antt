@@ -1,5 +1,6 @@
-use mathlib.Core.Path.{refl}
+use mathlib.Core.Path.{refl, _∙_}
 use Rattle.rules.specs.Tables.{lend}
+use Rattle.plan_laws.specs.Answers.{Plannable}
 use Rattle.planning.proofs.Outcomes.{plan-refused, plannable, plan-done}
 use borrow.Author.Needs.{needs}
 use Rattle.planning.proofs.plan.Statement.{statement}
@@ -19,10 +20,17 @@ returns c =
     let a = c .before .before .before .before .before .before .before .before .before .args in
     plan-refused (a .n) (lend (a .widths .now) (a .guards .now)) (a .order .now) (a .starts .now) (a .seed) (a .rounds) _ _ _ (c .before .before .then-rounds .ensures) (c .before .before .before .lent-fault .ensures) (c .before .before .before .before .plan-sizes .ensures (a .order .now) (a .starts .now) refl refl) (c .if1 .taken)
 
-chosen-plan-requires : tie.Need-chosen-plan-requires
-chosen-plan-requires c κs =
-    let a = c .before .before .before .before .before .before .before .before .before .before .before .args in
-    plannable (a .n) (lend (a .widths .now) (a .guards .now)) (a .order .now) (a .starts .now) (a .seed) (a .rounds) _ _ _ (c .before .before .before .before .then-rounds .ensures) (c .before .before .before .before .before .lent-fault .ensures) (c .before .before .before .before .before .before .plan-sizes .ensures (a .order .now) (a .starts .now) refl refl) (c .before .before .if1 .left)
+-- what the tests have accepted
+clear : (c : tie.Else1) → let a = c .before .before .before .before .before .before .before .before .before .args in Plannable (a .n) (lend (a .widths .now) (a .guards .now)) (a .order .now) (a .starts .now) (a .seed) (a .rounds)
+clear c =
+    let a = c .before .before .before .before .before .before .before .before .before .args in
+    plannable (a .n) (lend (a .widths .now) (a .guards .now)) (a .order .now) (a .starts .now) (a .seed) (a .rounds) _ _ _ (c .before .before .then-rounds .ensures) (c .before .before .before .lent-fault .ensures) (c .before .before .before .before .plan-sizes .ensures (a .order .now) (a .starts .now) refl refl) (c .if1 .left)
+
+chosen-order-requires : tie.Need-chosen-order-requires
+chosen-order-requires c κs = let p = clear (c .before) in (p .network, (p .orderSize, p .few))
+
+packed-plan-requires : tie.Need-packed-plan-requires
+packed-plan-requires c κs = c .before .before .before .before .chosen-order .ensures (c .before .before .before .before .before .before .before .before .before .before .before .before .before .before .before .args .starts .now) (clear (c .before .before .before .before .before .before) .startsSize) .packable
 
 same-length : tie.Need-same-length
 same-length c = search needs
@@ -32,9 +40,9 @@ same-length-2 c = search needs
 
 returns-2 : tie.Need-returns-2
 returns-2 c =
-    let a = c .before .before .before .before .before .before .before .before .before .before .before .before .before .before .before .before .args in
-    plan-done (a .n) (lend (a .widths .now) (a .guards .now)) (a .order .now) (a .starts .now) (a .seed) (a .rounds) _ _ _ (c .before .before .before .before .before .before .before .before .before .then-rounds .ensures) (c .before .before .before .before .before .before .before .before .before .before .lent-fault .ensures) (c .before .before .before .before .before .before .before .before .before .before .before .plan-sizes .ensures (a .order .now) (a .starts .now) refl refl) (c .before .before .before .before .before .before .before .if1 .left)
-    _ _ (c .before .before .before .before .chosen-plan .ensures)
+    let a = c .before .before .before .before .before .before .before .before .before .before .before .before .before .before .before .before .before .before .args in
+    plan-done (a .n) (lend (a .widths .now) (a .guards .now)) (a .order .now) (a .starts .now) (a .seed) (a .rounds) _ _ _ (c .before .before .before .before .before .before .before .before .before .before .before .then-rounds .ensures) (c .before .before .before .before .before .before .before .before .before .before .before .before .lent-fault .ensures) (c .before .before .before .before .before .before .before .before .before .before .before .before .before .plan-sizes .ensures (a .order .now) (a .starts .now) refl refl) (c .before .before .before .before .before .before .before .before .before .if1 .left)
+    _ _ (c .before .before .packed-plan .ensures ∙ c .before .before .before .before .before .before .before .chosen-order .ensures (a .starts .now) (clear (c .before .before .before .before .before .before .before .before .before) .startsSize) .done)
 
 pub plan-spec : {M : Type 1} → statement M
 plan-spec =
@@ -44,7 +52,8 @@ plan-spec =
     lent-fault-requires
     then-rounds-requires
     returns
-    chosen-plan-requires
+    chosen-order-requires
+    packed-plan-requires
     same-length
     same-length-2
     returns-2)
