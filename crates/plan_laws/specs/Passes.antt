@@ -182,9 +182,12 @@ module _ (key : ℕ → ℕ) (n : ℕ) (before : List ℕ) where
           go true e f g = rw (f, g) (passing-put (eqb-true (key k) value e))
           go false e f g = rw (f, g) (passing-skip (eqb-false (key k) value e))
 
--- the two sides: a high path has mark 2, and the key of a side is 0 for low and 1 for high
-abbrev pub sideOf : List ℕ → ℕ → ℕ
-sideOf mark k = cond (eqb (at mark k) 2) 1 0
+-- the two sides: a high path has mark 2, and its key is 1; that of a low one is 0
+abbrev pub sideOf : ℕ → ℕ
+sideOf x = cond (eqb x 2) 1 0
+
+abbrev pub sidesOf : List ℕ → ℕ → ℕ
+sidesOf mark k = sideOf (at mark k)
 
 count-sum : (P : ℕ → Bool) (m : ℕ) → count P m ≡ sum (λ k. cond (P k) 1 0) m
 unfolding weigh sum
@@ -195,20 +198,20 @@ module _ (n : ℕ) (mark before : List ℕ) where
   abbrev high : ℕ → Bool
   high k = eqb (at mark k) 2
 
-  pub passing-low : (order : List ℕ) (p : ℕ) → Passing (sideOf mark) n before order 1 0 p → p ≡ lowSide n high
+  pub passing-low : (order : List ℕ) (p : ℕ) → Passing (sidesOf mark) n before order 1 0 p → p ≡ lowSide n high
   unfolding lowSide
   passing-low order p a =
-      passing-count (sideOf mark) n before order 1 0 p a
-      ∙ count-sum (passed (sideOf mark) 1 0) n
-      ∙ sum-same (λ k. cond (passed (sideOf mark) 1 0 k) 1 0) (λ k. cond (high k) 0 1) n (λ k l. rw (passed-start (sideOf mark) 1 k) (low (high k)))
+      passing-count (sidesOf mark) n before order 1 0 p a
+      ∙ count-sum (passed (sidesOf mark) 1 0) n
+      ∙ sum-same (λ k. cond (passed (sidesOf mark) 1 0 k) 1 0) (λ k. cond (high k) 0 1) n (λ k l. rw (passed-start (sidesOf mark) 1 k) (low (high k)))
     where
       low : (b : Bool) → _≡_ {A = ℕ} (cond (ltb (cond b 1 0) 1) 1 0) (cond b 0 1)
       low true = refl
       low false = refl
 
-  pub passing-last : (order : List ℕ) (p : ℕ) → Passing (sideOf mark) n before order 2 0 p → order ≡ twoSided n high before
+  pub passing-last : (order : List ℕ) (p : ℕ) → Passing (sidesOf mark) n before order 2 0 p → order ≡ twoSided n high before
   unfolding twoSided
-  passing-last order p a = a .made ∙ ap (arranged (λ s i. sideOf mark) n before) all
+  passing-last order p a = a .made ∙ ap (arranged (λ s i. sidesOf mark) n before) all
     where
       done : (b : Bool) → ltb (cond b 1 0) 2 ≡ true
       done true = refl
@@ -216,6 +219,6 @@ module _ (n : ℕ) (mark before : List ℕ) where
 
       all : p ≡ n
       all =
-          passing-count (sideOf mark) n before order 2 0 p a
-          ∙ weigh-all (λ k. 1) (passed (sideOf mark) 2 0) n (λ k l. passed-start (sideOf mark) 2 k ∙ done (high k))
+          passing-count (sidesOf mark) n before order 2 0 p a
+          ∙ weigh-all (λ k. 1) (passed (sidesOf mark) 2 0) n (λ k l. passed-start (sidesOf mark) 2 k ∙ done (high k))
           ∙ sum-ones (λ k. 1) n (λ k l. refl)

@@ -12,11 +12,13 @@ ghost use Rattle.rules.specs.Scan.{first, found, foundPair};
 ghost use Rattle.rules.specs.Plan.{netOf};
 ghost use Rattle.rules.specs.Sides.{marks, sameMark, hasSides, twoSided, lowSide};
 ghost use Rattle.plan_laws.specs.Spreading.{between, nextPath, askedMark, meeting, Met};
-ghost use Rattle.plan_laws.specs.Passes.{Passing, sideOf};
+ghost use Rattle.plan_laws.specs.Passes.{Passing, sideOf, sidesOf};
 ghost use Rattle.sides.specs.Split.{SplitIs};
 
-// While the sides are sought a cell of the marks holds 0 for a path not met, its mark for a marked one, and 3
-// or 4 for one that is met: it is in conflict with a marked path, and mark 1 or 2 is asked of it.
+// While the sides are sought a cell of the marks holds 0 for a path not met, 1 or 2 for one of this mark, and
+// 3 or 4 for one that is met: it is in conflict with a marked path, and mark 1 or 2 is asked of it.
+
+// Whether a cell holds one of the values from low to high.
 fn is_between(low: u8, high: u8, x: u8) -> bool
     ensures { λ r. ⌜ r ≡ between low high x ⌝ }
 {
@@ -26,7 +28,7 @@ fn is_between(low: u8, high: u8, x: u8) -> bool
     x <= high
 }
 
-// The first path whose cell holds one of the values from low to high; n if there is none.
+// The first path with such a cell; n if there is none.
 fn first_between(n: usize, low: u8, high: u8, mark: &[u8]) -> usize
     requires { ⌜ (n ≤ 128) × (length (now mark) ≡ 128) ⌝ }
     ensures { λ r. ⌜ r ≡ first (λ k. between low high (at (now (mark .entry)) k)) n ⌝ }
@@ -60,8 +62,8 @@ fn asked_mark(x: u8) -> u8
     if x < 3 { 1 } else { x - 2 }
 }
 
-// What the cell of a path holds once a path has been marked to which its guard is g. A marked path keeps
-// its mark; any other is met where they are in conflict, and of its conflicts the last one asks.
+// What a cell holding x holds once a path to which its own has guard g has been marked. A marked path keeps its
+// mark; any other is met where they are in conflict, and is asked anew by each of its conflicts.
 fn met(asked: u8, g: u8, x: u8) -> u8
     ensures { λ r. ⌜ r ≡ meeting asked g x ⌝ }
 {
@@ -74,7 +76,7 @@ fn met(asked: u8, g: u8, x: u8) -> u8
     asked
 }
 
-// Path c has been marked: along its row of the guards.
+// Path c has been marked, and asks along its row of the guards, with no branch on a cell.
 fn meet_row(n: usize, c: usize, asked: u8, guards: &[u8], mark: &mut [u8])
     requires { ⌜ (n ≤ 128) × ((c < n) × ((length (now guards) ≡ 16384) × (length (now mark) ≡ 128))) ⌝ }
     ensures { λ _. ⌜ Met n (now (guards .entry)) c asked (now (mark .entry)) (now (mark .exit)) ⌝ }
@@ -88,8 +90,8 @@ fn meet_row(n: usize, c: usize, asked: u8, guards: &[u8], mark: &mut [u8])
     }
 }
 
-// The mark of each path: 1 is low, 2 is high. A marked path asks the other mark of those in conflict with it:
-// 3 less its own, and 2 more while it is only asked.
+// The mark of each path: 1 is low, 2 is high. A path of mark s asks the other mark, 3-s, of those in conflict
+// with it, which a cell holds as 5-s.
 fn mark_sides(n: usize, guards: &[u8], mark: &mut [u8])
     requires { ⌜ (n ≤ 128) × ((length (now guards) ≡ 16384) × (now mark ≡ cleared 128 0)) ⌝ }
     ensures { λ _. ⌜ ((lent : Lent) → lent .guards ≡ now (guards .entry) → now (mark .exit)
@@ -162,17 +164,17 @@ fn find_sides(n: usize, guards: &[u8], mark: &mut [u8]) -> bool
 
 // 1 for a high path, 0 for a low one.
 fn side_of(mark: u8) -> u8
-    ensures { λ r. ⌜ r ≡ cond (eqb mark 2) 1 0 ⌝ }
+    ensures { λ r. ⌜ r ≡ sideOf mark ⌝ }
 {
     if mark == 2 { 1 } else { 0 }
 }
 
 // Path k goes to place p of the order where it is of the side asked for; the next place.
 fn put_path(k: usize, mark: u8, side: u8, order: &mut [u8], p: usize) -> usize
-    requires { ⌜ (k < 128) × ((p ≤ 128) × (cond (eqb mark 2) 1 0 ≡ side → p < length (now order))) ⌝ }
-    ensures { λ r. ⌜ r ≡ cond (eqb (cond (eqb mark 2) 1 0) side) (p + 1) p ⌝ }
+    requires { ⌜ (k < 128) × ((p ≤ 128) × (sideOf mark ≡ side → p < length (now order))) ⌝ }
+    ensures { λ r. ⌜ r ≡ cond (eqb (sideOf mark) side) (p + 1) p ⌝ }
     ensures { λ _. ⌜ now (order .exit)
-        ≡ cond (eqb (cond (eqb mark 2) 1 0) side) (set (now (order .entry)) p k) (now (order .entry)) ⌝ }
+        ≡ cond (eqb (sideOf mark) side) (set (now (order .entry)) p k) (now (order .entry)) ⌝ }
 {
     if side_of(mark) != side {
         return p;
@@ -181,12 +183,13 @@ fn put_path(k: usize, mark: u8, side: u8, order: &mut [u8], p: usize) -> usize
     p + 1
 }
 
-// The paths of one side go into the order by number, from place p on; the place after them.
+// The paths of one side go into the order by number, from a place on; the place after them.
 fn put_side(n: usize, mark: &[u8], side: u8, order: &mut [u8], from: usize) -> usize
     requires { ⌜ (n ≤ 128) × ((length (now mark) ≡ 128)
-        × ((before : List ℕ) × Passing (sideOf (now mark)) n before (now order) side 0 from)) ⌝ }
-    ensures { λ r. ⌜ ((before : List ℕ) → Passing (sideOf (now (mark .entry))) n before (now (order .entry)) side 0 from
-        → Passing (sideOf (now (mark .entry))) n before (now (order .exit)) side n r) ⌝ }
+        × ((before : List ℕ) × Passing (sidesOf (now mark)) n before (now order) side 0 from)) ⌝ }
+    ensures { λ r. ⌜ ((before : List ℕ)
+        → Passing (sidesOf (now (mark .entry))) n before (now (order .entry)) side 0 from
+        → Passing (sidesOf (now (mark .entry))) n before (now (order .exit)) side n r) ⌝ }
 {
     let mut p: usize = from;
     let mut k: usize = 0;
