@@ -118,6 +118,6 @@ pub fn floor_of(widths: &[u16], guards: &[u8], list: &[u8]) -> usize
 {
     let w = widths_added(widths, list);
     let square = walks::square_of(guards, list);
-    let g = walks::shortest(square, list.len());
+    let g = walks::shortest(&square, list.len());
     w + (g as usize)
 }

@@ -1,6 +1,6 @@
 -- The table of walks: cell 8 s + j has the least walk from position j through the set s. The sets are filled
 -- in the order of their numbers, so that each comes after all its parts. Assumes nothing.
-use Prim.Native.Nat.{ℕ, suc, _+_, _-_, _*_, _%_, _≤_, _<_}
+use Prim.Native.Nat.{ℕ, suc, _+_, _-_, _*_, _%_, _≤_, _<_, min}
 use mathlib.Core.Path.{_≡_, refl, sym, subst, ap, _∙_}
 use mathlib.Core.Bool.{Bool, true, false, cond}
 use mathlib.Core.List.{List}
@@ -12,17 +12,21 @@ use lib.Dec.{eqb}
 use borrow.Author.Tests.{eqb-true, eqb-false}
 use Rattle.rules.specs.Tables.{at, cleared}
 use Rattle.rules.specs.Scan.{least}
-use Rattle.rules.specs.Floor.{walkLength, shortest}
 use Rattle.table_laws.specs.Count.{each-suc}
-use Rattle.table_laws.specs.Scans.{least-same}
+use Rattle.table_laws.specs.Scans.{least-start, least-same}
 use Rattle.table_laws.specs.Tables.{at-same, at-other, cleared-at, cleared-length}
 use Rattle.walks.specs.Sets.{power, shifted, has, power-pos, power-le, has-none}
-use Rattle.walks.specs.Walked.{Least, least-outside, least-past, least-alone, least-onward, least-shortest}
+use Rattle.walks.specs.Walked.{Least, least-outside, least-past, least-alone, least-onward}
 
 -- the least way on from a position whose guards are given, through the set that is left: one guard, and the
 -- least walk from there
 abbrev pub onward : List ℕ → List ℕ → ℕ → ℕ
 onward walks guards rest = least 255 (λ i. at guards i + at walks (8 * rest + i)) 8
+
+-- for the code: what is more than 255 is not below it
+pub capped-next : (f : ℕ → ℕ) (i r v : ℕ) → r ≡ least 255 f i → v ≡ min 255 (f i) → min r v ≡ least 255 f (suc i)
+unfolding least
+capped-next f i r v e g = omega (arith, least-start 255 f i)
 
 -- the least walk through the set s from a position: `own` is the set of that position alone, `cut` is s
 -- with the positions before it cut off. 255 where it is not in s
@@ -89,12 +93,3 @@ module _ (guard : ℕ → ℕ → ℕ) (k : ℕ) where
     here = λ i l. absurd (omega arith);
     left = λ x h g. cleared-at size 255 x (omega (arith, cleared-length size 255));
   }
-
-  -- at last the way on from no position, with no guards, through all positions is the shortest walk
-  pub filled-all : (r s : ℕ) (walks : List ℕ) (none : List ℕ) → s ≡ power k → Filled s 0 walks → 1 ≤ k → k ≤ 8 → ((i : ℕ) → i < 8 → at none i ≡ 0)
-      → r ≡ onward walks none (s - 1) → walkLength guard k (λ i. i) < 255 → r ≡ shortest guard k
-  filled-all r s walks none q f pos few zeros e small = least-shortest guard k r (λ i. at none i + at walks (8 * (s - 1) + i)) pos few
-      (λ i h. rw (← q, same i h) (f .done (s - 1) i (omega (arith, power-pos k)) h)) e small
-    where
-      same : (i : ℕ) → i < 8 → at none i + at walks (8 * (s - 1) + i) ≡ at walks (8 * (s - 1) + i)
-      same i h = omega (arith, zeros i h)

@@ -4,3 +4,6 @@ pub mod Square
 pub mod Sets
 pub mod Walked
 pub mod Filled
+-- the walks joined at the last position
+pub mod Around
+pub mod Joined

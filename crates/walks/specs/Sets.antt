@@ -67,12 +67,12 @@ has-none zero = refl
 has-none (suc j) = has-none j
 
 -- one position more: it is in the set, and the others are as before
-has-added : (s j : ℕ) → has s j ≡ false → has (s + power j) j ≡ true
+pub has-added : (s j : ℕ) → has s j ≡ false → has (s + power j) j ≡ true
 unfolding has shifted power
 has-added s zero e = let h = eqb-false (s % 2) 1 e in eq-eqb ((s + 1) % 2) 1 (omega arith)
 has-added s (suc j) e = let q : (s + (power j + power j)) / 2 ≡ s / 2 + power j = omega arith in rw q (has-added (s / 2) j e)
 
-has-other : (s j i : ℕ) → has s j ≡ false → i ≢ j → has (s + power j) i ≡ has s i
+pub has-other : (s j i : ℕ) → has s j ≡ false → i ≢ j → has (s + power j) i ≡ has s i
 unfolding has shifted power
 has-other s zero zero e ne = absurd (ne refl)
 has-other s zero (suc i) e ne = let h = eqb-false (s % 2) 1 e in let q : (s + 1) / 2 ≡ s / 2 = omega arith in rw q refl
@@ -95,6 +95,26 @@ has-taken s (suc j) e =
     let l = power-le (s / 2) j e in
     let q : (s - (power j + power j)) / 2 ≡ s / 2 - power j = omega arith in
     rw q (has-taken (s / 2) j e)
+
+-- a set of the first n positions has none past them, and the rest of them has none that it has
+pub has-past : (s n : ℕ) → s < power n → has s n ≡ false
+has-past s n l = go (has s n) refl
+  where
+    go : (b : Bool) → has s n ≡ b → has s n ≡ false
+    go true e = absurd (omega (arith, power-le s n e))
+    go false e = e
+
+pub has-rest : (n s j : ℕ) → s < power n → j < n → has s j ≡ true → has (power n - 1 - s) j ≡ false
+unfolding has shifted power
+has-rest zero s j l h e = absurd (omega arith)
+has-rest (suc n) s zero l h e =
+    let p = power-pos n in
+    let odd = eqb-true (s % 2) 1 e in
+    ne-eqb ((power n + power n - 1 - s) % 2) 1 (λ z. omega arith)
+has-rest (suc n) s (suc j) l h e =
+    let p = power-pos n in
+    let q : (power n + power n - 1 - s) / 2 ≡ power n - 1 - s / 2 = omega arith in
+    rw q (has-rest n (s / 2) j (omega arith) (omega arith) e)
 
 -- the set of all k positions
 pub has-all : (k j : ℕ) → j < k → has (power k - 1) j ≡ true

@@ -1,5 +1,5 @@
 -- The least walk from a position through a set of positions: how those of the larger sets come from those of
--- the smaller, and that the least through all positions is the shortest walk. Assumes nothing.
+-- the smaller, and which walk through all positions is the shortest. Assumes nothing.
 use Prim.Native.Nat.{ℕ, zero, suc, _+_, _-_, _≤_, _<_}
 use mathlib.Core.Path.{_≡_, refl, sym, ap, _∙_}
 use mathlib.Core.Logic.{_≢_, _⊎_, inl, inr}
@@ -13,7 +13,7 @@ use Rattle.rules.specs.Packing.{Order, placed}
 use Rattle.rules.specs.Floor.{walkLength, shortest}
 use Rattle.table_laws.specs.Scans.{found-at, least-le, least-at, sum-front}
 use Rattle.table_laws.specs.Count.{count-le, count-some}
-use Rattle.table_laws.specs.Orders.{placed-not, count-placed, own-order}
+use Rattle.table_laws.specs.Orders.{placed-not, count-placed}
 use Rattle.plan_laws.specs.Walks.{shortest-is}
 use Rattle.walks.specs.Sets.{power, has, members, power-le, has-taken, has-all, members-have, members-all}
 
@@ -53,10 +53,10 @@ module _ (guard : ℕ → ℕ → ℕ) (k : ℕ) where
     pub low : (o : ℕ → ℕ) (m : ℕ) → Through s j o m → v ≤ steps o m
     pub some : v < 255 → (o : ℕ → ℕ) × (m : ℕ) × Through s j o m × (v ≡ steps o m)
 
-  through-has : (s j : ℕ) (o : ℕ → ℕ) (m : ℕ) → Through s j o m → (i : ℕ) → has s i ≡ placed o (suc m) i
+  pub through-has : (s j : ℕ) (o : ℕ → ℕ) (m : ℕ) → Through s j o m → (i : ℕ) → has s i ≡ placed o (suc m) i
   through-has s j o m t i = rw (sym (t .all)) (members-have o k (suc m) (t .order) i)
 
-  through-own : (s j : ℕ) (o : ℕ → ℕ) (m : ℕ) → Through s j o m → has s j ≡ true
+  pub through-own : (s j : ℕ) (o : ℕ → ℕ) (m : ℕ) → Through s j o m → has s j ≡ true
   unfolding placed
   through-own s j o m t = through-has s j o m t j ∙ found-at (λ i. eqb (o i) j) (suc m) 0 (omega arith) (eq-eqb (o 0) j (t .begins))
 
@@ -133,39 +133,20 @@ module _ (guard : ℕ → ℕ → ℕ) (k : ℕ) where
           go (inl z) = absurd (omega arith)
           go (inr (i, h, z)) = let x = rows i h .some (omega arith) in joined i (e ∙ z) (x .0) (x .1) (x .2) (x .3)
 
-  -- the least of the walks through all positions is the shortest
-  pub least-shortest : (r : ℕ) (row : ℕ → ℕ) → 1 ≤ k → k ≤ 8 → ((i : ℕ) → i < 8 → Least (power k - 1) i (row i)) → r ≡ least 255 row 8
-      → walkLength guard k (λ i. i) < 255 → r ≡ shortest guard k
-  unfolding walkLength
-  least-shortest r row pos few rows e small = go (least-at 255 row 8)
+  -- a walk through all positions is along a whole order
+  whole : (i : ℕ) (o : ℕ → ℕ) (m : ℕ) → Through (power k - 1) i o m → suc m ≡ k
+  whole i o m t = pick (decLt (suc m) k)
     where
-      last : suc (k - 1) ≡ k
-      last = omega arith
+      pick : Dec (suc m < k) → suc m ≡ k
+      pick (yes l) =
+          let x = count-some (placed o (suc m)) k (omega (arith, count-placed o k (suc m) (t .order))) in
+          absurd (true≢false (sym (has-all k (x .0) (x .1)) ∙ through-has (power k - 1) i o m t (x .0) ∙ x .2))
+      pick (no g) = omega (arith, count-placed o k (suc m) (t .order), count-le (placed o (suc m)) k)
 
-      -- each order is a walk through all
-      below : (o : ℕ → ℕ) → Order o k k → r ≤ steps o (k - 1)
-      below o ord =
-          let t : Through (power k - 1) (o 0) o (k - 1) = record { order = rw last ord; begins = refl; all = rw last (members-all o k ord) } in
-          let inside = ord .inside 0 pos in
-          omega (arith, least-le 255 row 8 (o 0) (omega arith), rows (o 0) (omega arith) .low o (k - 1) t)
-
-      -- and a walk through all is along a whole order
-      whole : (i : ℕ) (o : ℕ → ℕ) (m : ℕ) → Through (power k - 1) i o m → m ≡ k - 1
-      whole i o m t = pick (decLt (suc m) k)
-        where
-          pick : Dec (suc m < k) → m ≡ k - 1
-          pick (yes l) =
-              let x = count-some (placed o (suc m)) k (omega (arith, count-placed o k (suc m) (t .order))) in
-              absurd (true≢false (sym (has-all k (x .0) (x .1)) ∙ through-has (power k - 1) i o m t (x .0) ∙ x .2))
-          pick (no g) = omega (arith, count-placed o k (suc m) (t .order), count-le (placed o (suc m)) k)
-
-      reached : (i : ℕ) (o : ℕ → ℕ) (m : ℕ) → Through (power k - 1) i o m → r ≡ steps o m → r ≡ shortest guard k
-      reached i o m t q =
-          let w = whole i o m t in
-          shortest-is guard k r (λ x ord. unfold walkLength in below x ord) o (rw last at (rw w at (t .order))) (unfold walkLength in (rw w at q))
-
-      go : (least 255 row 8 ≡ 255) ⊎ ((i : ℕ) × (i < 8) × (least 255 row 8 ≡ row i)) → r ≡ shortest guard k
-      go (inl z) = absurd (omega (arith, below (λ i. i) (own-order k)))
-      go (inr (i, h, z)) =
-          let x = rows i h .some (omega (arith, below (λ i. i) (own-order k))) in
-          reached i (x .0) (x .1) (x .2) (e ∙ z ∙ x .3)
+  -- a walk through all that no order is below is the shortest
+  pub through-shortest : (i r : ℕ) (o : ℕ → ℕ) (m : ℕ) → Through (power k - 1) i o m → r ≡ steps o m → ((x : ℕ → ℕ) → Order x k k → r ≤ steps x (k - 1)) → r ≡ shortest guard k
+  unfolding walkLength
+  through-shortest i r o m t e below =
+      let w = whole i o m t in
+      let q : m ≡ k - 1 = omega arith in
+      shortest-is guard k r below o (rw w at (t .order)) (rw q at e)

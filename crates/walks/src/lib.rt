@@ -1,15 +1,17 @@
-// An inner crate: the shortest walk through the paths of a floor's list (RULES 12). The least walks are built
-// up by sets of positions: those through a set come from those through the set with one position less, so
-// that no order is walked twice. A set is a number, bit j being position j; a table of walks has 8 cells for
-// each set, one for each position at which a walk may begin.
+// An inner crate: the shortest walk through the paths of a floor's list (RULES 12). Every walk passes the last
+// position: it is one walk away from there through some of the positions before it, and one through the rest
+// of them. The least walks through those are built up by sets: the walks through a set come from those through
+// the set with one position less, so that no order is walked twice. A set is a number, bit j being position j;
+// a table of walks has 8 cells for each set, one for each position at which a walk may begin.
 ghost use mathlib.Core.Path.{_≡_};
-ghost use Prim.Native.Nat.{ℕ, suc, _+_, _-_, _*_, _%_, _≤_, _<_, min};
+ghost use Prim.Native.Nat.{ℕ, suc, _+_, _-_, _*_, _/_, _%_, _≤_, _<_, min};
 ghost use lib.ListN.{length};
 ghost use Rattle.rules.specs.Tables.{at, cleared};
-ghost use Rattle.rules.specs.Floor.{walkLength, shortest as shortestWalk};
+ghost use Rattle.rules.specs.Floor.{shortest as shortestWalk};
 ghost use Rattle.walks.specs.Sets.{power};
-ghost use Rattle.walks.specs.Square.{Row, Square, guardIn};
+ghost use Rattle.walks.specs.Square.{Row, Square, Walkable, guardIn};
 ghost use Rattle.walks.specs.Filled.{onward as onwardOf, leastFrom, Filled};
+ghost use Rattle.walks.specs.Joined.{away as awayOf, leastJoined};
 
 // Stands for no walk. Through eight paths none is longer than seven guards of 32.
 const NO_WALK: u8 = 255;
@@ -93,13 +95,13 @@ fn least_from(walks: &[u8], guards: [u8; 8], s: usize, own: usize, cut: usize) -
     onward(walks, guards, s - own)
 }
 
-// Fills the cells of the set s, when all sets of smaller numbers are filled: every set that s is with one
-// position less is among them.
-fn fill_set(square: [[u8; 8]; 8], k: usize, s: usize, walks: &mut [u8])
+// Fills the cells of the set s of the first k positions, when all sets of smaller numbers are filled: every
+// set that s is with one position less is among them.
+fn fill_set(square: &[[u8; 8]; 8], k: usize, s: usize, walks: &mut [u8])
     requires { ⌜ (k ≤ 8) × ((s < power k) × ((8 * s + 8 ≤ length (now walks))
-        × Filled (guardIn square) k s 0 (now walks))) ⌝ }
+        × Filled (guardIn (now square)) k s 0 (now walks))) ⌝ }
     ensures { λ _. ⌜ (length (now (walks .exit)) ≡ length (now (walks .entry)))
-        × Filled (guardIn square) k (suc s) 0 (now (walks .exit)) ⌝ }
+        × Filled (guardIn (now (square .entry))) k (suc s) 0 (now (walks .exit)) ⌝ }
 {
     let mut own: usize = 1;
     let mut cut: usize = s;
@@ -126,38 +128,66 @@ fn sets(k: usize) -> usize
     all
 }
 
-// The least walk through all k positions, the sets being filled one after the other in a blank table.
-fn shortest_in(square: [[u8; 8]; 8], k: usize, walks: &mut [u8]) -> u8
-    requires { ⌜ (1 ≤ k) × ((k ≤ 8) × ((walkLength (guardIn square) k (λ i. i) < 255)
-        × ((size : ℕ) × ((8 * power k ≤ size) × (now walks ≡ cleared size 255))))) ⌝ }
-    ensures { λ r. ⌜ r ≡ shortestWalk (guardIn square) k ⌝ }
+// The way on from the last position, with these guards, through the set s: none where the set is empty.
+fn away(walks: &[u8], guards: [u8; 8], s: usize) -> u8
+    requires { ⌜ (s < 256) × (8 * s + 8 ≤ length (now walks)) ⌝ }
+    ensures { λ r. ⌜ r ≡ awayOf (now (walks .entry)) guards s ⌝ }
 {
-    let all = sets(k);
-    let mut s: usize = 1;
-    while s < all {
-        fill_set(square, k, s, walks);
-        s += 1;
+    if s == 0 {
+        return 0;
     }
-    onward(walks, [0; 8], all - 1)
+    onward(walks, guards, s)
 }
 
-// The same of at most four, in a table that is sooner cleared.
-fn shortest_of_few(square: [[u8; 8]; 8], k: usize) -> u8
-    requires { ⌜ (1 ≤ k) × ((k ≤ 4) × (walkLength (guardIn square) k (λ i. i) < 255)) ⌝ }
-    ensures { λ r. ⌜ r ≡ shortestWalk (guardIn square) k ⌝ }
+// The least walk that passes the last position, with these guards: away from it through one set of the
+// positions before it, and through the rest of them, which are half - 1 - s where that set is s. Two such
+// sets are tried once, as a walk is as long backwards.
+fn least_joined(walks: &[u8], guards: [u8; 8], half: usize) -> u8
+    requires { ⌜ (1 ≤ half) × ((half ≤ 256) × (8 * half ≤ length (now walks))) ⌝ }
+    ensures { λ r. ⌜ r ≡ leastJoined (now (walks .entry)) guards half ((half + 1) / 2) ⌝ }
+{
+    let mut best = NO_WALK;
+    let mut s: usize = 0;
+    while s + s < half {
+        best = smaller(best, step(away(walks, guards, s), away(walks, guards, half - 1 - s)));
+        s += 1;
+    }
+    best
+}
+
+// The shortest walk through the positions up to the last, in a blank table: the sets of those before it are
+// filled one after the other.
+fn shortest_in(square: &[[u8; 8]; 8], last: usize, walks: &mut [u8]) -> u8
+    requires { ⌜ (last < 8) × (Walkable (guardIn (now square)) (suc last)
+        × ((size : ℕ) × ((8 * power last ≤ size) × (now walks ≡ cleared size 255)))) ⌝ }
+    ensures { λ r. ⌜ r ≡ shortestWalk (guardIn (now (square .entry))) (suc last) ⌝ }
+{
+    let half = sets(last);
+    let mut s: usize = 1;
+    while s < half {
+        fill_set(square, last, s, walks);
+        s += 1;
+    }
+    least_joined(walks, square[last], half)
+}
+
+// The same of at most five positions, in a table that is sooner cleared.
+fn shortest_of_few(square: &[[u8; 8]; 8], last: usize) -> u8
+    requires { ⌜ (last < 5) × Walkable (guardIn (now square)) (suc last) ⌝ }
+    ensures { λ r. ⌜ r ≡ shortestWalk (guardIn (now (square .entry))) (suc last) ⌝ }
 {
     let mut walks = [NO_WALK; 128];
-    shortest_in(square, k, &mut walks)
+    shortest_in(square, last, &mut walks)
 }
 
 // The shortest walk through the first k positions of a square.
-pub fn shortest(square: [[u8; 8]; 8], k: usize) -> u8
-    requires { ⌜ (1 ≤ k) × ((k ≤ 8) × (walkLength (guardIn square) k (λ i. i) < 255)) ⌝ }
-    ensures { λ r. ⌜ r ≡ shortestWalk (guardIn square) k ⌝ }
+pub fn shortest(square: &[[u8; 8]; 8], k: usize) -> u8
+    requires { ⌜ (1 ≤ k) × ((k ≤ 8) × Walkable (guardIn (now square)) k) ⌝ }
+    ensures { λ r. ⌜ r ≡ shortestWalk (guardIn (now (square .entry))) k ⌝ }
 {
-    if k <= 4 {
-        return shortest_of_few(square, k);
+    if k <= 5 {
+        return shortest_of_few(square, k - 1);
     }
-    let mut walks = [NO_WALK; 2048];
-    shortest_in(square, k, &mut walks)
+    let mut walks = [NO_WALK; 1024];
+    shortest_in(square, k - 1, &mut walks)
 }

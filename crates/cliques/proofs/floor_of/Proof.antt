@@ -1,5 +1,5 @@
 use native.Mathlib.Omega.{arith}
-use mathlib.Core.Path.{_≡_, refl, _∙_}
+use mathlib.Core.Path.{_≡_, refl, sym, _∙_}
 use Prim.Native.Nat.{ℕ, suc, _+_, _-_, _≤_, _<_}
 use mathlib.Core.List.{List}
 use lib.ListN.{length}
@@ -12,7 +12,7 @@ use Rattle.table_laws.specs.Scans.{sum-le}
 use Rattle.plan_laws.specs.Fits.{network-bounds}
 use Rattle.plan_laws.specs.Answers.{Floorable}
 use Rattle.plan_laws.specs.Walks.{shortest-same}
-use Rattle.walks.specs.Square.{Square, guardIn}
+use Rattle.walks.specs.Square.{Square, Walkable, guardIn}
 use Rattle.cliques.proofs.floor_of.Statement.{statement}
 use Rattle.cliques.proofs.floor_of.Tie as tie
 
@@ -23,9 +23,12 @@ module _ (n : ℕ) (lent : Lent) (list : List ℕ) (f : Floorable n lent list) (
       let inside = f .clique .inside in
       rw (q .row i (omega arith) .guard j l) (network-bounds n lent (f .network) .near (at list i) (at list j) (inside i (omega arith)) (inside j l) (f .clique .all i j h l))
 
-  walk-small : walkLength (guardIn square) (length list) (λ i. i) < 255
+  walkable : Walkable (guardIn square) (length list)
   unfolding walkLength
-  walk-small = omega (arith, f .few, sum-le (λ i. guardIn square i (suc i)) 32 (length list - 1) (λ i l. near i (suc i) (omega arith) (omega arith)))
+  walkable = record {
+    mirror = λ i j h l. q .row i h .guard j l ∙ f .network .mirrored (at list i) (at list j) (f .clique .inside i h) (f .clique .inside j l) ∙ sym (q .row j l .guard i h);
+    small = omega (arith, f .few, sum-le (λ i. guardIn square i (suc i)) 32 (length list - 1) (λ i l. near i (suc i) (omega arith) (omega arith)));
+  }
 
   floor-sum : (w g r : ℕ) → w ≡ sum (λ i. at (lent .widths) (at list i)) (length list) → g ≡ shortest (guardIn square) (length list) → r ≡ w + g
       → r ≡ floor (netOf lent) (at list) (length list)
@@ -40,9 +43,9 @@ square-of-requires c κs = let f = c .before .before .before .before .pre .1 in 
 
 shortest-requires : tie.Need-shortest-requires
 shortest-requires c κs =
-    let s = c .before .before .before .before .before in
+    let s = c .before .before .before .before .before .before in
     let f = s .pre .1 in
-    (f .some, (f .few, walk-small (s .pre .0) (lend (s .args .widths .now) (s .args .guards .now)) (s .args .list .now) f (c .square-of .result) (c .square-of .ensures)))
+    (f .some, (f .few, walkable (s .pre .0) (lend (s .args .widths .now) (s .args .guards .now)) (s .args .list .now) f (c .before .square-of .result) (c .before .square-of .ensures)))
 
 cast-result : tie.Need-cast-result
 cast-result c = search needs
@@ -52,8 +55,8 @@ add-result c = search needs
 
 returns : tie.Need-returns
 returns c =
-    let s = c .before .before .before .before .before .before in
-    floor-sum (s .pre .0) (lend (s .args .widths .now) (s .args .guards .now)) (s .args .list .now) (s .pre .1) _ (c .before .square-of .ensures) _ _ _ (c .before .before .widths-added .ensures .0) (c .shortest .ensures) refl
+    let s = c .before .before .before .before .before .before .before in
+    floor-sum (s .pre .0) (lend (s .args .widths .now) (s .args .guards .now)) (s .args .list .now) (s .pre .1) _ (c .before .before .square-of .ensures) _ _ _ (c .before .before .before .widths-added .ensures .0) (c .shortest .ensures) refl
 
 pub floor-of-spec : {M : Type 1} → statement M
 floor-of-spec =

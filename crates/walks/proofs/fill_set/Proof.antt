@@ -9,11 +9,11 @@ use Rattle.walks.proofs.fill_set.Statement.{statement}
 use Rattle.walks.proofs.fill_set.Tie as tie
 
 abbrev Inv-loop : tie.InvT-loop
-Inv-loop k s walks₀ square own₀ cut₀ j₀ walks own cut j =
+Inv-loop square k s walks₀ own₀ cut₀ j₀ walks own cut j =
     (j ≤ k) × ((own ≡ power j) × ((cut ≡ shifted s j) × ((length walks ≡ length walks₀) × Filled (guardIn square) k s j walks)))
 
 abbrev μ-loop : tie.MeasureT-loop
-μ-loop k s walks₀ square own₀ cut₀ j₀ walks own cut j = k - j
+μ-loop square k s walks₀ own₀ cut₀ j₀ walks own cut j = k - j
 
 loop-holds : tie.Need-loop-holds Inv-loop μ-loop
 unfolding power shifted
@@ -26,8 +26,8 @@ turn c = let p = c .before .before .before .pre in (omega (arith, power-most (c 
 mul-least-from : tie.Need-mul-least-from Inv-loop μ-loop
 mul-least-from c = omega arith
 
-array-copy-out-least-from : tie.Need-array-copy-out-least-from Inv-loop μ-loop
-array-copy-out-least-from c = omega arith
+element-copy-out-least-from : tie.Need-element-copy-out-least-from Inv-loop μ-loop
+element-copy-out-least-from c = omega arith
 
 least-from-requires : tie.Need-least-from-requires Inv-loop μ-loop
 least-from-requires c κs =
@@ -65,7 +65,7 @@ loop-again c =
           shifted-next (a .s) (l .j) (l .cut) (l .inv .1 .1 .0),
           (
             length-set (l .walks) _ _ ∙ f .0,
-            filled-more (guardIn (a .t1)) (a .k) (a .s) (l .j) _ (l .walks) _ (f .1) (omega arith) (omega arith) (turn (c .before .before .before) .1) (λ i h. refl) (l .own) (l .cut) (l .inv .1 .0) (l .inv .1 .1 .0) (c .least-from .ensures),
+            filled-more (guardIn (a .square .now)) (a .k) (a .s) (l .j) _ (l .walks) _ (f .1) (omega arith) (omega arith) (turn (c .before .before .before) .1) (λ i h. refl) (l .own) (l .cut) (l .inv .1 .0) (l .inv .1 .1 .0) (c .least-from .ensures),
           ),
         ),
       ),
@@ -79,7 +79,7 @@ returns c =
     let l = c .before .loop in
     let a = c .before .before .before .args in
     let e : l .j ≡ a .k = omega arith in
-    (l .inv .1 .1 .1 .0, filled-set (guardIn (a .t1)) (a .k) (a .s) (l .walks) (rw e at (l .inv .1 .1 .1 .1)) (omega arith) (omega arith))
+    (l .inv .1 .1 .1 .0, filled-set (guardIn (a .square .now)) (a .k) (a .s) (l .walks) (rw e at (l .inv .1 .1 .1 .1)) (omega arith) (omega arith))
 
 pub fill-set-spec : {M : Type 1} → statement M
 fill-set-spec =
@@ -89,7 +89,7 @@ fill-set-spec =
     μ-loop
     loop-holds
     mul-least-from
-    array-copy-out-least-from
+    element-copy-out-least-from
     least-from-requires
     mul-walks
     add-walks

@@ -1,11 +1,11 @@
 use native.Mathlib.Omega.{arith}
 use native.Mathlib.Numerals.{add-one}
 use borrow.Author.Needs.{needs}
-use Prim.Native.Nat.{ℕ, suc, _+_, _-_, _*_, _≤_, min}
+use Prim.Native.Nat.{_+_, _-_, _*_, _≤_}
 use mathlib.Core.Path.{_≡_, refl, _∙_}
 use Rattle.rules.specs.Tables.{at}
 use Rattle.rules.specs.Scan.{least}
-use Rattle.table_laws.specs.Scans.{least-start}
+use Rattle.walks.specs.Filled.{capped-next}
 use Rattle.walks.proofs.onward.Statement.{statement}
 use Rattle.walks.proofs.onward.Tie as tie
 
@@ -42,11 +42,6 @@ add-i c = omega arith
 
 loop-less : tie.Need-loop-less Inv-loop μ-loop
 loop-less c = omega arith
-
--- what is more than 255 is not below it
-capped-next : (f : ℕ → ℕ) (i r v : ℕ) → r ≡ least 255 f i → v ≡ min 255 (f i) → min r v ≡ least 255 f (suc i)
-unfolding least
-capped-next f i r v e g = omega (arith, least-start 255 f i)
 
 loop-again : tie.Need-loop-again Inv-loop μ-loop
 loop-again c = (omega arith, c .smaller .ensures ∙ rw add-one (capped-next _ _ _ _ (c .before .before .before .before .loop .inv .1) (c .before .step .ensures)))

@@ -1,8 +1,8 @@
 use native.Mathlib.Omega.{arith}
 use borrow.Author.Needs.{needs}
 use Prim.Native.Nat.{_+_, _-_, _*_, _≤_, _<_}
-use mathlib.Core.Path.{refl, _∙_}
-use lib.ListN.{length, replicate, getD-replicate}
+use mathlib.Core.Path.{refl}
+use lib.ListN.{length, replicate}
 use Rattle.rules.specs.Tables.{at}
 use Rattle.table_laws.specs.Updates.{Updated, update-none, update-more}
 use Rattle.walks.proofs.row_of.Statement.{statement}
@@ -60,9 +60,7 @@ loop-again c =
     (omega arith, update-more _ _ (l .row) (l .q) _ (l .inv .1) (omega arith) refl)
 
 returns : tie.Need-returns Inv-loop μ-loop
-returns c =
-    let u = c .before .loop .inv .1 in
-    record { guard = λ q h. u .done q (omega arith); rest = λ q h g. u .left q (omega arith) ∙ getD-replicate 8 q 255 0 g }
+returns c = record { guard = λ q h. c .before .loop .inv .1 .done q (omega arith) }
 
 pub row-of-spec : {M : Type 1} → statement M
 row-of-spec =

@@ -2,46 +2,46 @@ use native.Mathlib.Omega.{arith}
 use native.Mathlib.Numerals.{add-one}
 use Prim.Native.Nat.{_-_, _*_, _≤_}
 use mathlib.Core.Path.{_≡_, refl, _∙_}
-use lib.ListN.{length, replicate, getD-replicate}
+use lib.ListN.{length}
 use Rattle.table_laws.specs.Tables.{cleared-length}
 use Rattle.walks.specs.Sets.{power, power-pos, power-most}
 use Rattle.walks.specs.Square.{guardIn}
-use Rattle.walks.specs.Filled.{Filled, filled-none, filled-all}
+use Rattle.walks.specs.Filled.{Filled, filled-none}
+use Rattle.walks.specs.Joined.{joined-shortest}
 use Rattle.walks.proofs.shortest_in.Statement.{statement}
 use Rattle.walks.proofs.shortest_in.Tie as tie
 
 abbrev Inv-loop : tie.InvT-loop
-Inv-loop square k walks₀ all s₀ walks s =
-    (1 ≤ s) × ((s ≤ all) × ((length walks ≡ length walks₀) × Filled (guardIn square) k s 0 walks))
+Inv-loop square last walks₀ half s₀ walks s =
+    (1 ≤ s) × ((s ≤ half) × ((length walks ≡ length walks₀) × Filled (guardIn square) last s 0 walks))
 
 abbrev μ-loop : tie.MeasureT-loop
-μ-loop square k walks₀ all s₀ walks s = all - s
+μ-loop square last walks₀ half s₀ walks s = half - s
 
 sets-requires : tie.Need-sets-requires Inv-loop μ-loop
-sets-requires c κs = c .before .pre .1 .0
+sets-requires c κs = omega (arith, c .before .pre .0)
 
 -- there are at most 256 sets
 most : (c : tie.After-sets Inv-loop μ-loop) → c .sets .result ≤ 256
-most c = omega (arith, c .sets .ensures, power-most (c .before .before .args .k) (c .before .before .pre .1 .0))
+most c = omega (arith, c .sets .ensures, power-most (c .before .before .args .last) (omega (arith, c .before .before .pre .0)))
 
 loop-holds : tie.Need-loop-holds Inv-loop μ-loop
 loop-holds c =
-    let p = c .before .before .pre in
     let a = c .before .before .args in
-    let t = p .1 .1 .1 in
-    let pos = power-pos (a .k) in
-    (omega arith, (omega (arith, c .sets .ensures), (refl, filled-none (guardIn (a .square)) (a .k) (t .0) (a .walks .now) (omega (arith, t .1 .0)) (t .1 .1))))
+    let t = c .before .before .pre .1 .1 in
+    let pos = power-pos (a .last) in
+    (omega arith, (omega (arith, c .sets .ensures), (refl, filled-none (guardIn (a .square .now)) (a .last) (t .0) (a .walks .now) (omega (arith, t .1 .0)) (t .1 .1))))
 
 -- the table has room for all sets
-room : (c : tie.Start Inv-loop μ-loop) → 8 * power (c .args .k) ≤ length (c .args .walks .now)
-room c = let t = c .pre .1 .1 .1 in rw (t .1 .1) (rw (cleared-length (t .0) 255) (t .1 .0))
+room : (c : tie.Start Inv-loop μ-loop) → 8 * power (c .args .last) ≤ length (c .args .walks .now)
+room c = let t = c .pre .1 .1 in rw (t .1 .1) (rw (cleared-length (t .0) 255) (t .1 .0))
 
 fill-set-requires : tie.Need-fill-set-requires Inv-loop μ-loop
 fill-set-requires c κs =
     let l = c .before .before .loop in
     let s = c .before .before .before .before .before in
     let e = c .before .before .before .sets .ensures in
-    (s .pre .1 .0, (omega arith, (omega (arith, room s, l .inv .1 .1 .0), l .inv .1 .1 .1)))
+    (omega (arith, s .pre .0), (omega arith, (omega (arith, room s, l .inv .1 .1 .0), l .inv .1 .1 .1)))
 
 add-s : tie.Need-add-s Inv-loop μ-loop
 add-s c = omega (arith, most (c .before .before .before .before .before .before))
@@ -55,26 +55,28 @@ loop-again c =
     let f = c .before .before .fill-set .ensures in
     (omega arith, (omega arith, (f .0 ∙ l .inv .1 .1 .0, rw (add-one (l .s)) (f .1))))
 
-sub-onward : tie.Need-sub-onward Inv-loop μ-loop
-sub-onward c = omega (arith, power-pos (c .before .before .before .before .before .args .k), c .before .before .before .sets .ensures)
+mul-least-joined : tie.Need-mul-least-joined Inv-loop μ-loop
+mul-least-joined c = omega arith
 
-onward-requires : tie.Need-onward-requires Inv-loop μ-loop
-onward-requires c κs =
-    let s = c .before .before .before .before .before in
-    let e = c .before .before .before .sets .ensures in
-    let pos = power-pos (s .args .k) in
-    (omega (arith, most (c .before .before .before)), omega (arith, room s, c .before .before .loop .inv .1 .1 .0))
+element-copy-out-least-joined : tie.Need-element-copy-out-least-joined Inv-loop μ-loop
+element-copy-out-least-joined c = omega arith
+
+least-joined-requires : tie.Need-least-joined-requires Inv-loop μ-loop
+least-joined-requires c κs =
+    let s = c .before .before .before .before .before .before in
+    let e = c .before .before .before .before .sets .ensures in
+    (omega (arith, power-pos (s .args .last)), (most (c .before .before .before .before), omega (arith, room s, c .before .before .before .loop .inv .1 .1 .0)))
 
 same-length : tie.Need-same-length Inv-loop μ-loop
-same-length c = c .before .before .before .loop .inv .1 .1 .0
+same-length c = c .before .before .before .before .loop .inv .1 .1 .0
 
 returns : tie.Need-returns Inv-loop μ-loop
 returns c =
-    let l = c .before .before .before .loop in
-    let s = c .before .before .before .before .before .before in
-    let n = c .before .before .before .before .sets .ensures in
-    let e : l .s ≡ c .before .before .before .before .sets .result = omega arith in
-    filled-all (guardIn (s .args .square)) (s .args .k) _ (c .before .before .before .before .sets .result) (l .walks) (replicate 8 0) n (rw e at (l .inv .1 .1 .1)) (s .pre .0) (s .pre .1 .0) (λ i h. getD-replicate 8 i 0 0 h) (c .onward .ensures) (s .pre .1 .1 .0)
+    let l = c .before .before .before .before .loop in
+    let s = c .before .before .before .before .before .before .before in
+    let n = c .before .before .before .before .before .sets .ensures in
+    let e : l .s ≡ power (s .args .last) = omega arith in
+    joined-shortest (guardIn (s .args .square .now)) (s .args .last) (s .pre .1 .0) (s .pre .0) (l .walks) _ (rw e at (l .inv .1 .1 .1)) (λ i h. refl) _ (rw n at (c .least-joined .ensures))
 
 pub shortest-in-spec : {M : Type 1} → statement M
 shortest-in-spec =
@@ -88,7 +90,8 @@ shortest-in-spec =
     add-s
     loop-less
     loop-again
-    sub-onward
-    onward-requires
+    mul-least-joined
+    element-copy-out-least-joined
+    least-joined-requires
     same-length
     returns)

@@ -15,7 +15,7 @@ four = refl
 shortest-in-requires : tie.Need-shortest-in-requires
 shortest-in-requires c κs =
     let p = c .before .pre in
-    (p .0, (omega arith, (p .1 .1, (128, (omega (arith, power-rises (c .before .args .k) 4 (p .1 .0), four), blank 128 255)))))
+    (omega arith, (p .1, (128, (omega (arith, power-rises (c .before .args .last) 4 (omega arith), four), blank 128 255))))
 
 returns : tie.Need-returns
 returns c = c .before .shortest-in .ensures
