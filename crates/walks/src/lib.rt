@@ -149,7 +149,8 @@ fn least_joined(walks: &[u8], guards: [u8; 8], half: usize) -> u8
     let mut best = NO_WALK;
     let mut s: usize = 0;
     while s + s < half {
-        best = smaller(best, step(away(walks, guards, s), away(walks, guards, half - 1 - s)));
+        let walk = step(away(walks, guards, s), away(walks, guards, half - 1 - s));
+        best = smaller(best, walk);
         s += 1;
     }
     best
