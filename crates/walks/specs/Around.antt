@@ -60,8 +60,8 @@ members-around o m n =
       sum-same (λ i. power (o (suc m - suc i))) (λ i. power (o (m - i))) (suc m) (λ i l. ap (λ x. power (o x)) (omega arith)),
     )
 
-pub back-order : (o : ℕ → ℕ) (k m : ℕ) → Order o k (suc m) → Order (back o m) k (suc m)
-back-order o k m ord = record {
+pub back-order : (o : ℕ → ℕ) (k m n : ℕ) → Order o k (suc (m + n)) → Order (back o m) k (suc m)
+back-order o k m n ord = record {
   inside = λ i l. ord .inside (m - i) (omega arith);
   fresh = λ i j h l e. ord .fresh (m - j) (m - i) (omega arith) (omega arith) (sym e);
 }
@@ -120,7 +120,8 @@ module _ (a b : ℕ → ℕ) (m : ℕ) where
         members-same (on (around a m b) m) b (suc n) (λ i l. around-on i),
       )
 
-  pub around-steps : (guard : ℕ → ℕ → ℕ) (k n : ℕ) → ((i j : ℕ) → i < k → j < k → guard i j ≡ guard j i) → a 0 ≡ b 0 → Order (around a m b) k (suc (m + n)) → steps guard k (around a m b) (m + n) ≡ steps guard k a m + steps guard k b n
+  pub around-steps : (guard : ℕ → ℕ → ℕ) (k n : ℕ) → ((i j : ℕ) → i < k → j < k → guard i j ≡ guard j i) → a 0 ≡ b 0 → Order (around a m b) k (suc (m + n))
+      → steps guard k (around a m b) (m + n) ≡ steps guard k a m + steps guard k b n
   around-steps guard k n mirror e ord =
       omega (
         arith,

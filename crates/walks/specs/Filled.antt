@@ -1,7 +1,7 @@
 -- The table of walks: cell 8 s + j has the least walk from position j through the set s. The sets are filled
 -- in the order of their numbers, so that each comes after all its parts. Assumes nothing.
 use Prim.Native.Nat.{ℕ, suc, _+_, _-_, _*_, _%_, _≤_, _<_, min}
-use mathlib.Core.Path.{_≡_, refl, sym, subst, ap, _∙_}
+use mathlib.Core.Path.{_≡_, refl, sym, subst, _∙_}
 use mathlib.Core.Bool.{Bool, true, false, cond}
 use mathlib.Core.List.{List}
 use native.Mathlib.Omega.{arith}
@@ -22,6 +22,9 @@ use Rattle.walks.specs.Walked.{Least, least-outside, least-past, least-a
 -- least walk from there
 abbrev pub onward : List ℕ → List ℕ → ℕ → ℕ
 onward walks guards rest = least 255 (λ i. at guards i + at walks (8 * rest + i)) 8
+
+pub onward-row : (walks guards : List ℕ) (rest : ℕ) (guard : ℕ → ℕ) → ((i : ℕ) → i < 8 → at guards i ≡ guard i) → onward walks guards rest ≡ least 255 (λ i. guard i + at walks (8 * rest + i)) 8
+onward-row walks guards rest guard row = least-same 255 (λ i. at guards i + at walks (8 * rest + i)) (λ i. guard i + at walks (8 * rest + i)) 8 (λ i h. rw (row i h))
 
 -- for the code: what is more than 255 is not below it
 pub capped-next : (f : ℕ → ℕ) (i r v : ℕ) → r ≡ least 255 f i → v ≡ min 255 (f i) → min r v ≡ least 255 f (suc i)
@@ -61,7 +64,7 @@ module _ (guard : ℕ → ℕ → ℕ) (k : ℕ) where
           let pos = power-pos j in
           let ne = eqb-false s (power j) z in
           least-onward guard k s j (onward walks guards rest) (λ i. at walks (8 * rest + i)) q (omega arith) (λ i h. f .done rest i (omega arith) h) few l
-          (least-same 255 (λ i. at guards i + at walks (8 * rest + i)) (λ i. guard j i + at walks (8 * rest + i)) 8 (λ i h. ap (λ g. g + at walks (8 * rest + i)) (row i h)))
+          (onward-row walks guards rest (guard j) row)
 
       alone : has s j ≡ true → (b : Bool) → eqb s (power j) ≡ b → Least guard k s j (cond b 0 (onward walks guards rest))
       alone q true z = rw (eqb-true s (power j) z) (least-alone guard k j l)

@@ -8,17 +8,17 @@ use mathlib.Core.List.{List}
 use native.Mathlib.Omega.{arith}
 use native.Mathlib.Decide.{decLt}
 use lib.Dec.{eqb}
-use borrow.Author.Tests.{eqb-true, eqb-false, eq-eqb}
+use borrow.Author.Tests.{eqb-true, eqb-false}
 use Rattle.rules.specs.Tables.{at}
-use Rattle.rules.specs.Scan.{least, sum}
-use Rattle.rules.specs.Packing.{Order, placed}
+use Rattle.rules.specs.Scan.{least}
+use Rattle.rules.specs.Packing.{Order}
 use Rattle.rules.specs.Floor.{walkLength, shortest}
-use Rattle.table_laws.specs.Scans.{found-at, least-le, least-at, least-same, sum-same}
+use Rattle.table_laws.specs.Scans.{least-le, least-at}
 use Rattle.table_laws.specs.Orders.{place, own-order}
 use Rattle.walks.specs.Sets.{power, has, members, power-pos, power-le, has-added, has-other, has-past, has-rest, members-all}
 use Rattle.walks.specs.Square.{Walkable}
-use Rattle.walks.specs.Walked.{steps, Through, Least, through-has, through-own, least-alone, least-onward, through-shortest}
-use Rattle.walks.specs.Filled.{onward, Filled}
+use Rattle.walks.specs.Walked.{steps, Through, Least, through-at, through-own, least-alone, least-onward, through-shortest}
+use Rattle.walks.specs.Filled.{onward, onward-row, Filled}
 use Rattle.walks.specs.Around.{back, on, around, members-around, back-order, on-order, steps-around, around-members, around-steps, around-order}
 
 -- the way on from the last position through a set of those before it: none where the set is empty
@@ -30,31 +30,35 @@ away walks guards s = cond (eqb s 0) 0 (onward walks guards s)
 unfoldable pub leastJoined : List ℕ → List ℕ → ℕ → ℕ → ℕ
 leastJoined walks guards half m = least 255 (λ s. away walks guards s + away walks guards (half - 1 - s)) m
 
--- a position on a walk is in its set
-through-at : (guard : ℕ → ℕ → ℕ) (k s j : ℕ) (o : ℕ → ℕ) (m : ℕ) → Through guard k s j o m → (i : ℕ) → i < suc m → has s (o i) ≡ true
-unfolding placed
-through-at guard k s j o m t i l = through-has guard k s j o m t (o i) ∙ found-at (λ x. eqb (o x) (o i)) (suc m) i l (eq-eqb (o i) (o i) refl)
+-- a walk through a set of the first k positions is one where there is one position more, and the other way
+module _ (guard : ℕ → ℕ → ℕ) (k s j : ℕ) (o : ℕ → ℕ) (m : ℕ) where
+  wider : Through guard k s j o m → Through guard (suc k) s j o m
+  wider t = record { order = record { inside = λ i l. omega (arith, t .order .inside i l); fresh = t .order .fresh }; begins = t .begins; all = t .all }
 
--- the least walks through a set of the first k positions are the same where there is one position more
+  narrower : s < power k → Through guard (suc k) s j o m → Through guard k s j o m
+  narrower small t = record { order = record { inside = λ i l. inside i l (decLt (o i) k); fresh = t .order .fresh }; begins = t .begins; all = t .all }
+    where
+      inside : (i : ℕ) → i < suc m → Dec (o i < k) → o i < k
+      inside i l (yes h) = h
+      inside i l (no h) =
+          let e : o i ≡ k = omega (arith, t .order .inside i l) in
+          absurd (omega (arith, power-le s (o i) (through-at guard (suc k) s j o m t i l), ap power e))
+
 least-wider : (guard : ℕ → ℕ → ℕ) (k s j v : ℕ) → s < power k → Least guard k s j v → Least guard (suc k) s j v
 least-wider guard k s j v small h = record {
-  low = λ o m t. h .low o m record { order = record { inside = inside o m t; fresh = t .order .fresh }; begins = t .begins; all = t .all };
-  some = λ l. let x = h .some l in (x .0, x .1, record { order = record { inside = λ i g. omega (arith, x .2 .order .inside i g); fresh = x .2 .order .fresh }; begins = x .2 .begins; all = x .2 .all }, x .3);
+  low = λ o m t. h .low o m (narrower guard k s j o m small t);
+  some = λ l. let x = h .some l in (x .0, x .1, wider guard k s j (x .0) (x .1) (x .2), x .3);
 }
-  where
-    inside : (o : ℕ → ℕ) (m : ℕ) → Through guard (suc k) s j o m → (i : ℕ) → i < suc m → o i < k
-    inside o m t i l = pick (decLt (o i) k)
-      where
-        pick : Dec (o i < k) → o i < k
-        pick (yes g) = g
-        pick (no g) =
-            let e : o i ≡ k = omega (arith, t .order .inside i l) in
-            absurd (omega (arith, power-le s (o i) (through-at guard (suc k) s j o m t i l), ap power e))
 
 module _ (guard : ℕ → ℕ → ℕ) (last : ℕ) (good : Walkable guard (suc last)) (few : last < 8) (walks guards : List ℕ) (filled : Filled guard last (power last) 0 walks)
     (row : (i : ℕ) → i < 8 → at guards i ≡ guard last i) where
+  -- the sets of the positions before the last: half of all, as those are once without it and once with it
   abbrev half : ℕ
   half = power last
+
+  twice : power (suc last) ≡ half + half
+  unfolding power
+  twice = refl
 
   -- the way on is the least walk from the last position through it and the set
   away-least : (s : ℕ) → s < half → Least guard (suc last) (s + half) last (away walks guards s)
@@ -70,7 +74,7 @@ module _ (guard : ℕ → ℕ → ℕ) (last : ℕ) (good : Walkable guard (suc 
           let ne = eqb-false s 0 e in
           least-onward guard (suc last) (s + half) last (onward walks guards s) (λ i. at walks (8 * s + i)) (has-added s last (has-past s last l)) (omega arith)
           (λ i h. rw less (least-wider guard last s i _ l (filled .done s i l h))) (omega arith) (omega arith)
-          (least-same 255 (λ i. at guards i + at walks (8 * s + i)) (λ i. guard last i + at walks (8 * s + i)) 8 (λ i h. ap (λ g. g + at walks (8 * s + i)) (row i h)))
+          (onward-row walks guards s (guard last) row)
 
   abbrev both : ℕ → ℕ
   both s = away walks guards s + away walks guards (half - 1 - s)
@@ -84,11 +88,7 @@ module _ (guard : ℕ → ℕ → ℕ) (last : ℕ) (good : Walkable guard (suc 
     whole = rw split ord
 
     before : Through guard (suc last) (members (back o m) (suc m)) last (back o m) m
-    before = record {
-      order = back-order o (suc last) m record { inside = λ i h. ord .inside i (omega arith); fresh = λ i j h g. ord .fresh i j h (omega arith) };
-      begins = ap o (omega arith) ∙ here;
-      all = refl;
-    }
+    before = record { order = back-order o (suc last) m (last - m) whole; begins = ap o (omega arith) ∙ here; all = refl }
 
     after : Through guard (suc last) (members (on o m) (suc (last - m))) last (on o m) (last - m)
     after = record { order = on-order o (suc last) m (last - m) whole; begins = ap o (omega arith) ∙ here; all = refl }
@@ -111,9 +111,6 @@ module _ (guard : ℕ → ℕ → ℕ) (last : ℕ) (good : Walkable guard (suc 
 
     rest : one + other ≡ half - 1
     rest = omega (arith, own-one, own-other, members-around o m (last - m), ap (λ x. members o (suc x)) split, members-all o (suc last) ord, twice, ap power here, power-pos last)
-      where
-        twice : power (suc last) ≡ half + half
-        twice = unfold power in refl
 
     low : (r : ℕ) → r ≡ leastJoined walks guards half ((half + 1) / 2) → r ≤ steps guard (suc last) o last
     unfolding leastJoined
@@ -134,13 +131,19 @@ module _ (guard : ℕ → ℕ → ℕ) (last : ℕ) (good : Walkable guard (suc 
             let q : half - 1 - other ≡ one = omega (arith, rest) in
             omega (arith, away-le, ap (away walks guards) q, least-le 255 both ((half + 1) / 2) other (omega (arith, rest, power-pos last)))
 
+  -- a position of a set with the last one, and not that one, is in the set without it
+  without : (s : ℕ) → s < half → (i : ℕ) → i ≢ last → has (s + half) i ≡ true → has s i ≡ true
+  without s l i ne e = sym (has-other s last i (has-past s last l) ne) ∙ e
+
   -- walks away from the last position through a set and through its rest, joined there, go through all
-  module _ (s : ℕ) (l : s < half) (a b : ℕ → ℕ) (m n : ℕ) (t : Through guard (suc last) (s + half) last a m) (u : Through guard (suc last) (half - 1 - s + half) last b n) where
+  module _ (s : ℕ) (l : s < half) (a b : ℕ → ℕ) (m n : ℕ) (t : Through guard (suc last) (s + half) last a m)
+      (u : Through guard (suc last) (half - 1 - s + half) last b n) where
     apart : (i j : ℕ) → i < m → j < suc n → a (suc i) ≢ b j
     apart i j h g e =
         let ne : a (suc i) ≢ last = λ z. t .order .fresh 0 (suc i) (omega arith) (omega arith) (t .begins ∙ sym z) in
-        let in-one = sym (has-other s last (a (suc i)) (has-past s last l) ne) ∙ through-at guard (suc last) (s + half) last a m t (suc i) (omega arith) in
-        let in-other = sym (has-other (half - 1 - s) last (a (suc i)) (has-past (half - 1 - s) last (omega (arith, power-pos last))) ne) ∙ ap (has (half - 1 - s + half)) e ∙ through-at guard (suc last) (half - 1 - s + half) last b n u j g in
+        let in-one = without s l (a (suc i)) ne (through-at guard (suc last) (s + half) last a m t (suc i) (omega arith)) in
+        let other = through-at guard (suc last) (half - 1 - s + half) last b n u j g in
+        let in-other = without (half - 1 - s) (omega (arith, power-pos last)) (a (suc i)) ne (ap (has (half - 1 - s + half)) e ∙ other) in
         true≢false (sym in-other ∙ has-rest last s (a (suc i)) l (omega (arith, t .order .inside (suc i) (omega arith))) in-one)
 
     meet : a 0 ≡ b 0
@@ -151,9 +154,6 @@ module _ (guard : ℕ → ℕ → ℕ) (last : ℕ) (good : Walkable guard (suc 
 
     through : Through guard (suc last) (power (suc last) - 1) (around a m b 0) (around a m b) (m + n)
     through = record { order = order; begins = refl; all = omega (arith, around-members a b m meet n, t .all, u .all, ap power (u .begins), twice) }
-      where
-        twice : power (suc last) ≡ half + half
-        twice = unfold power in refl
 
     joined : (r : ℕ) → r ≡ steps guard (suc last) a m + steps guard (suc last) b n → r ≡ steps guard (suc last) (around a m b) (m + n)
     joined r e = e ∙ sym (around-steps a b m guard (suc last) n (good .mirror) meet order)

@@ -15,7 +15,7 @@ use Rattle.table_laws.specs.Scans.{found-at, least-le, least-at, sum-front}
 use Rattle.table_laws.specs.Count.{count-le, count-some}
 use Rattle.table_laws.specs.Orders.{placed-not, count-placed}
 use Rattle.plan_laws.specs.Walks.{shortest-is}
-use Rattle.walks.specs.Sets.{power, has, members, power-le, has-taken, has-all, members-have, members-all}
+use Rattle.walks.specs.Sets.{power, has, members, power-le, has-taken, has-all, members-have}
 
 -- an order with j before it
 unfoldable pub before : ℕ → (ℕ → ℕ) → ℕ → ℕ
@@ -53,12 +53,16 @@ module _ (guard : ℕ → ℕ → ℕ) (k : ℕ) where
     pub low : (o : ℕ → ℕ) (m : ℕ) → Through s j o m → v ≤ steps o m
     pub some : v < 255 → (o : ℕ → ℕ) × (m : ℕ) × Through s j o m × (v ≡ steps o m)
 
-  pub through-has : (s j : ℕ) (o : ℕ → ℕ) (m : ℕ) → Through s j o m → (i : ℕ) → has s i ≡ placed o (suc m) i
+  through-has : (s j : ℕ) (o : ℕ → ℕ) (m : ℕ) → Through s j o m → (i : ℕ) → has s i ≡ placed o (suc m) i
   through-has s j o m t i = rw (sym (t .all)) (members-have o k (suc m) (t .order) i)
 
-  pub through-own : (s j : ℕ) (o : ℕ → ℕ) (m : ℕ) → Through s j o m → has s j ≡ true
+  -- the positions on a walk are in its set
+  pub through-at : (s j : ℕ) (o : ℕ → ℕ) (m : ℕ) → Through s j o m → (i : ℕ) → i < suc m → has s (o i) ≡ true
   unfolding placed
-  through-own s j o m t = through-has s j o m t j ∙ found-at (λ i. eqb (o i) j) (suc m) 0 (omega arith) (eq-eqb (o 0) j (t .begins))
+  through-at s j o m t i l = through-has s j o m t (o i) ∙ found-at (λ x. eqb (o x) (o i)) (suc m) i l (eq-eqb (o i) (o i) refl)
+
+  pub through-own : (s j : ℕ) (o : ℕ → ℕ) (m : ℕ) → Through s j o m → has s j ≡ true
+  through-own s j o m t = ap (has s) (sym (t .begins)) ∙ through-at s j o m t 0 (omega arith)
 
   -- no walk begins outside the set, or past the positions that there are
   pub least-outside : (s j : ℕ) → has s j ≡ false → Least s j 255
@@ -144,7 +148,8 @@ module _ (guard : ℕ → ℕ → ℕ) (k : ℕ) where
       pick (no g) = omega (arith, count-placed o k (suc m) (t .order), count-le (placed o (suc m)) k)
 
   -- a walk through all that no order is below is the shortest
-  pub through-shortest : (i r : ℕ) (o : ℕ → ℕ) (m : ℕ) → Through (power k - 1) i o m → r ≡ steps o m → ((x : ℕ → ℕ) → Order x k k → r ≤ steps x (k - 1)) → r ≡ shortest guard k
+  pub through-shortest : (i r : ℕ) (o : ℕ → ℕ) (m : ℕ) → Through (power k - 1) i o m → r ≡ steps o m → ((x : ℕ → ℕ) → Order x k k → r ≤ steps x (k - 1))
+      → r ≡ shortest guard k
   unfolding walkLength
   through-shortest i r o m t e below =
       let w = whole i o m t in

@@ -1,8 +1,9 @@
-// An inner crate: the shortest walk through the paths of a floor's list (RULES 12). Every walk passes the last
-// position: it is one walk away from there through some of the positions before it, and one through the rest
-// of them. The least walks through those are built up by sets: the walks through a set come from those through
-// the set with one position less, so that no order is walked twice. A set is a number, bit j being position j;
-// a table of walks has 8 cells for each set, one for each position at which a walk may begin.
+// An inner crate: the shortest walk through the paths of a floor's list (RULES 12). Every walk passes the
+// last position: it is two walks away from there, one through some of the positions before it and one through
+// the rest, so that only walks through sets of those are kept. They are built up by sets: the least walks
+// through a set come from those through the set with one position less, and no order is walked twice. A set is
+// a number, bit j being position j; a table of walks has 8 cells for each set, one for each position at which
+// a walk may begin.
 ghost use mathlib.Core.Path.{_≡_};
 ghost use Prim.Native.Nat.{ℕ, suc, _+_, _-_, _*_, _/_, _%_, _≤_, _<_, min};
 ghost use lib.ListN.{length};
@@ -128,7 +129,8 @@ fn sets(k: usize) -> usize
     all
 }
 
-// The way on from the last position, with these guards, through the set s: none where the set is empty.
+// The least way on from the last position, which has these guards, through the set s: 0 where it is empty, as
+// the walk may begin or end at the last position.
 fn away(walks: &[u8], guards: [u8; 8], s: usize) -> u8
     requires { ⌜ (s < 256) × (8 * s + 8 ≤ length (now walks)) ⌝ }
     ensures { λ r. ⌜ r ≡ awayOf (now (walks .entry)) guards s ⌝ }
@@ -139,9 +141,9 @@ fn away(walks: &[u8], guards: [u8; 8], s: usize) -> u8
     onward(walks, guards, s)
 }
 
-// The least walk that passes the last position, with these guards: away from it through one set of the
-// positions before it, and through the rest of them, which are half - 1 - s where that set is s. Two such
-// sets are tried once, as a walk is as long backwards.
+// The least walk that passes the last position, which has these guards: away from it through a set s of those
+// before it, and through the rest of them, which is half - 1 - s. Of the two one is below the middle, and which
+// of them comes first makes no difference, so that s goes no further.
 fn least_joined(walks: &[u8], guards: [u8; 8], half: usize) -> u8
     requires { ⌜ (1 ≤ half) × ((half ≤ 256) × (8 * half ≤ length (now walks))) ⌝ }
     ensures { λ r. ⌜ r ≡ leastJoined (now (walks .entry)) guards half ((half + 1) / 2) ⌝ }
