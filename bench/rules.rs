@@ -211,18 +211,21 @@ pub fn all_orders(square: &Square, k: usize) -> usize {
     least
 }
 
-/// The library's own way: the least walks by sets of positions, the smaller sets first.
+/// The library's own way: the least walks by sets of the positions before the last, the smaller sets
+/// first, and the least of two walks away from the last position through a set and its rest.
 pub fn by_sets(square: &Square, k: usize) -> usize {
-    let mut walks = [[NO_CONFLICT; LIST_MOST]; 1 << LIST_MOST];
+    let (last, half) = (k - 1, 1 << (k - 1));
+    let mut walks = [[NO_CONFLICT; LIST_MOST]; 1 << (LIST_MOST - 1)];
     let onward = |from: &[u8; LIST_MOST], guards: &[u8; LIST_MOST]| {
         let sums = from.iter().zip(guards).map(|(&walk, &guard)| walk as u16 + guard as u16);
         sums.fold(NO_CONFLICT as u16, u16::min) as u8
     };
-    for set in 1..1 << k {
-        for j in (0..k).filter(|j| set >> j & 1 == 1) {
+    for set in 1..half {
+        for j in (0..last).filter(|j| set >> j & 1 == 1) {
             let rest = set - (1 << j);
             walks[set][j] = if rest == 0 { 0 } else { onward(&walks[rest], &square[j]) };
         }
     }
-    onward(&walks[(1 << k) - 1], &[0; LIST_MOST]) as usize
+    let away = |set: usize| if set == 0 { 0 } else { onward(&walks[set], &square[last]) as usize };
+    (0..half.div_ceil(2)).map(|set| away(set) + away(half - 1 - set)).fold(usize::MAX, usize::min)
 }
