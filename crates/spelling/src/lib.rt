@@ -86,16 +86,22 @@ pub fn put_word(text: &mut [u8], place: usize, w: &[u8]) -> usize
     p
 }
 
-// Puts a number, in as many digits as it has.
+// Puts a number, in as many digits as it has. The last digit is the first to be put: what is left of the number
+// is then a tenth of it, in the same place.
 pub fn put_number(text: &mut [u8], place: usize, v: usize) -> usize
     requires { ⌜ (v < 100000) × (place + length (numeral v) ≤ length (now text)) ⌝ }
     ensures { λ r. ⌜ Wrote (now (text .entry)) place (numeral v) r (now (text .exit)) ⌝ }
 {
-    if v < 10 {
-        return put(text, place, 48 + v as u8);
+    let end = place + number_length(v);
+    let mut left = v;
+    let mut p = end;
+    while left >= 10 {
+        p -= 1;
+        text[p] = 48 + (left % 10) as u8;
+        left /= 10;
     }
-    let p = put_number(text, place, v / 10);
-    put(text, p, 48 + (v % 10) as u8)
+    text[place] = 48 + left as u8;
+    end
 }
 
 // Puts a number that may lie below 0 and is counted from -100,000.
