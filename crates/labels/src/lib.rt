@@ -1,13 +1,12 @@
 // An inner crate, for the readers and writers of sheets: the table of labels, eight bytes a path, and the
 // keys that labels are compared by.
 ghost use mathlib.Core.Path.{_≡_};
+ghost use mathlib.Core.Bool.{false};
 ghost use Prim.Native.Nat.{_+_, _*_, _≤_};
 ghost use lib.ListN.{length};
-ghost use lib.Dec.{eqb};
 ghost use Rattle.rules.specs.Tables.{at, labelByte};
-ghost use Rattle.rules.specs.Scan.{first};
-ghost use Rattle.rules.specs.Sheet.{putRow};
-ghost use Rattle.rules.specs.Writing.{labelOf, badLabel};
+ghost use Rattle.rules.specs.Sheet.{isRow, find, putRow};
+ghost use Rattle.rules.specs.Writing.{labelOf, badLabel, labelTwice};
 ghost use Rattle.text.specs.Says.{part};
 ghost use Rattle.labels.specs.Keys.{Key};
 
@@ -19,23 +18,24 @@ fn label_byte(text: &[u8], place: usize, end: usize, j: usize) -> u8
     if j < end - place { text[place + j] } else { 0 }
 }
 
-// The eight bytes of the label between two places as one number: one test then compares all of them.
-pub fn label_key(text: &[u8], place: usize, end: usize) -> usize
+// The eight bytes of the label between two places as one number, the first of them lowest: one test then compares
+// all of them.
+fn label_key(text: &[u8], place: usize, end: usize) -> usize
     requires { ⌜ (place ≤ end) × (end ≤ length (now text)) ⌝ }
     ensures { λ r. ⌜ Key (at (part (now (text .entry)) place end)) r ⌝ }
 {
     let mut key: usize = 0;
-    let mut j = 0;
-    while j < rules::LABEL {
+    let mut j = rules::LABEL;
+    while 0 < j {
+        j -= 1;
         let byte = label_byte(text, place, end, j);
         key = 256 * key + byte as usize;
-        j += 1;
     }
     key
 }
 
-// The key of path k's label.
-pub fn row_key(labels: &[u8], k: usize) -> usize
+// The key of path k's label: a row of the table, read at one go.
+fn row_key(labels: &[u8], k: usize) -> usize
     requires { ⌜ 8 * k + 8 ≤ length (now labels) ⌝ }
     ensures { λ r. ⌜ Key (labelByte (now (labels .entry)) k) r ⌝ }
 {
@@ -43,14 +43,23 @@ pub fn row_key(labels: &[u8], k: usize) -> usize
     label_key(labels, row, row + rules::LABEL)
 }
 
-// The first of n keys that is the one given, or n.
-pub fn find(keys: &[usize], n: usize, key: usize) -> usize
-    requires { ⌜ n ≤ length (now keys) ⌝ }
-    ensures { λ r. ⌜ (r ≡ first (λ k. eqb (at (now (keys .entry)) k) key) n) × (r ≤ n) ⌝ }
+// Whether path k's label is the one between two places.
+pub fn is_row(labels: &[u8], k: usize, text: &[u8], place: usize, end: usize) -> bool
+    requires { ⌜ (8 * k + 8 ≤ length (now labels)) × (place ≤ end) × (end ≤ length (now text)) ⌝ }
+    ensures { λ r. ⌜ r ≡ isRow (now (labels .entry)) (part (now (text .entry)) place end) k ⌝ }
 {
+    row_key(labels, k) == label_key(text, place, end)
+}
+
+// The path among the first n whose label is the one between two places, or n. Its key is made once.
+pub fn find(labels: &[u8], n: usize, text: &[u8], place: usize, end: usize) -> usize
+    requires { ⌜ (8 * n ≤ length (now labels)) × (place ≤ end) × (end ≤ length (now text)) ⌝ }
+    ensures { λ r. ⌜ r ≡ find (now (labels .entry)) n (part (now (text .entry)) place end) ⌝ }
+{
+    let key = label_key(text, place, end);
     let mut k = 0;
     while k < n {
-        if keys[k] == key {
+        if row_key(labels, k) == key {
             return k;
         }
         k += 1;
@@ -102,4 +111,13 @@ pub fn bad_label(labels: &[u8], k: usize) -> bool
         j += 1;
     }
     false
+}
+
+// 12, in the writer: path k's label, which is not refused 11, is an earlier path's.
+pub fn label_twice(labels: &[u8], k: usize) -> bool
+    requires { ⌜ (8 * k + 8 ≤ length (now labels)) × (badLabel (now labels) k ≡ false) ⌝ }
+    ensures { λ r. ⌜ r ≡ labelTwice (now (labels .entry)) k ⌝ }
+{
+    let row = rules::LABEL * k;
+    find(labels, k, labels, row, row + rules::LABEL) < k
 }

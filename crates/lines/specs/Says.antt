@@ -1,12 +1,11 @@
 -- What the lines answer, against the definitions of the rules. A place in a text stands for the text from
 -- there on. Assumes nothing.
-use Prim.Native.Nat.{ℕ, _+_, _≤_, _<_}
+use Prim.Native.Nat.{ℕ, _≤_, _<_}
 use mathlib.Core.Path.{_≡_}
 use mathlib.Core.List.{List}
 use lib.ListN.{length, drop}
 use Rattle.rules.specs.Text.{none, some}
 use Rattle.rules.specs.Sheet.{Line, wrong, right, guardLine}
-use Rattle.labels.specs.Keys.{Keyed}
 use Rattle.text.specs.Says.{part}
 use Rattle.lines.specs.declared.GuardLine.{GuardLine}
 use Rattle.lines.specs.declared.GuardLine.the-variants.{Pair, Unpaired}
@@ -28,8 +27,3 @@ StepIs s t x (On e) = x ≡ right t (drop e s)
 abbrev pub StepWithin : List ℕ → Step → Type 0
 StepWithin s (Refused number) = Unit {0}
 StepWithin s (On e) = e ≤ length s
-
--- a path's line, which also leaves the key of its label
-abbrev pub PathStepIs : List ℕ → List ℕ → List ℕ → List ℕ → ℕ → Line (List ℕ × List ℕ) → Step → Type 0
-PathStepIs s labels widths keys k x (Refused number) = x ≡ wrong number
-PathStepIs s labels widths keys k x (On e) = (x ≡ right (labels, widths) (drop e s)) × (e ≤ length s) × Keyed labels keys (k + 1)

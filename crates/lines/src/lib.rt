@@ -1,13 +1,11 @@
 // An inner crate, for the readers of sheets: what each line of a sheet means, over the tables that it is
 // read into.
 ghost use mathlib.Core.Path.{_≡_};
-ghost use mathlib.Core.List.{List};
-ghost use Prim.Native.Nat.{ℕ, _+_, _*_, _≤_, _<_};
+ghost use Prim.Native.Nat.{_+_, _*_, _≤_, _<_};
 ghost use lib.ListN.{length, drop};
 ghost use Rattle.rules.specs.Numbers.{outside};
 ghost use Rattle.rules.specs.Sheet.{pathStep, guardStep, startStep};
-ghost use Rattle.labels.specs.Keys.{Keyed};
-ghost use Rattle.lines.specs.Says.{GuardLineIs, StepIs, StepWithin, PathStepIs};
+ghost use Rattle.lines.specs.Says.{GuardLineIs, StepIs, StepWithin};
 use text::Next;
 use text::PathLine;
 
@@ -42,25 +40,17 @@ fn out_of_range(v: usize, most: usize) -> bool
 }
 
 // Path k's line: 11, 12 label again, 3 width outside 1 to 64 (RULES 14).
-pub fn path_step(
-    text: &[u8],
-    place: usize,
-    k: usize,
-    labels: &mut [u8],
-    widths: &mut [u16],
-    keys: &mut [usize],
-) -> Step
+pub fn path_step(text: &[u8], place: usize, k: usize, labels: &mut [u8], widths: &mut [u16]) -> Step
     requires { ⌜ (place ≤ length (now text)) × (8 * k + 8 ≤ length (now labels))
-        × (k < length (now widths)) × (k < length (now keys)) × Keyed (now labels) (now keys) k ⌝ }
-    ensures { λ r. ⌜ PathStepIs (now (text .entry)) (now (labels .exit)) (now (widths .exit))
-        (now (keys .exit)) k
+        × (k < length (now widths)) ⌝ }
+    ensures { λ r. ⌜ StepWithin (now (text .entry)) r
+        × StepIs (now (text .entry)) (now (labels .exit), now (widths .exit))
         (pathStep k (now (labels .entry), now (widths .entry)) (drop place (now (text .entry)))) r ⌝ }
 {
     let PathLine::Fields(e, width, next) = text::path_line(text, place) else {
         return Step::Refused(rules::REFUSED_FORM);
     };
-    let key = labels::label_key(text, place, e);
-    let i = labels::find(keys, k, key);
+    let i = labels::find(labels, k, text, place, e);
     let bad_width = out_of_range(width, WIDTH_MOST);
     if i < k {
         return Step::Refused(rules::REFUSED_LABEL_TWICE);
@@ -69,7 +59,6 @@ pub fn path_step(
         return Step::Refused(rules::REFUSED_WIDTH);
     }
     labels::put_row(labels, k, text, place, e);
-    keys[k] = key;
     widths[k] = width as u16;
     Step::On(next)
 }
@@ -91,23 +80,20 @@ pub fn guard_line(text: &[u8], place: usize) -> GuardLine
     GuardLine::Pair(e, f, e2, g, h)
 }
 
-// A guard's line, over the keys of n labels: 11, 13 no path's label or one label twice, 14 the pair again, 4
+// A guard's line, over the labels of n paths: 11, 13 no path's label or one label twice, 14 the pair again, 4
 // guard over 32.
-pub fn guard_step(text: &[u8], place: usize, n: usize, keys: &[usize], guards: &mut [u8]) -> Step
-    requires { ⌜ (place ≤ length (now text)) × (n ≤ 128) × (n ≤ length (now keys))
+pub fn guard_step(text: &[u8], place: usize, n: usize, labels: &[u8], guards: &mut [u8]) -> Step
+    requires { ⌜ (place ≤ length (now text)) × (n ≤ 128) × (8 * n ≤ length (now labels))
         × (length (now guards) ≡ 16384) ⌝ }
     ensures { λ r. ⌜ StepWithin (now (text .entry)) r
-        × ((labels : List ℕ) → Keyed labels (now (keys .entry)) n
-        → StepIs (now (text .entry)) (now (guards .exit))
-        (guardStep n labels 0 (now (guards .entry)) (drop place (now (text .entry)))) r) ⌝ }
+        × StepIs (now (text .entry)) (now (guards .exit))
+        (guardStep n (now (labels .entry)) 0 (now (guards .entry)) (drop place (now (text .entry)))) r ⌝ }
 {
     let GuardLine::Pair(e, f, e2, guard, next) = guard_line(text, place) else {
         return Step::Refused(rules::REFUSED_FORM);
     };
-    let a = labels::label_key(text, place, e);
-    let b = labels::label_key(text, f, e2);
-    let i = labels::find(keys, n, a);
-    let j = labels::find(keys, n, b);
+    let i = labels::find(labels, n, text, place, e);
+    let j = labels::find(labels, n, text, f, e2);
     if n <= i {
         return Step::Refused(rules::REFUSED_LABEL_UNKNOWN);
     }
@@ -129,28 +115,19 @@ pub fn guard_step(text: &[u8], place: usize, n: usize, keys: &[usize], guards: &
     Step::On(next)
 }
 
-// Path k's start, over the keys of n labels: 11, 13 not its label, 7 start outside 1 to 16,384.
-pub fn start_step(
-    text: &[u8],
-    place: usize,
-    k: usize,
-    n: usize,
-    keys: &[usize],
-    starts: &mut [u16],
-) -> Step
-    requires { ⌜ (place ≤ length (now text)) × (k < n) × (n ≤ length (now keys))
-        × (n ≤ length (now starts)) ⌝ }
+// Path k's start: 11, 13 not its label, 7 start outside 1 to 16,384.
+pub fn start_step(text: &[u8], place: usize, k: usize, labels: &[u8], starts: &mut [u16]) -> Step
+    requires { ⌜ (place ≤ length (now text)) × (8 * k + 8 ≤ length (now labels))
+        × (k < length (now starts)) ⌝ }
     ensures { λ r. ⌜ StepWithin (now (text .entry)) r
-        × ((labels : List ℕ) → Keyed labels (now (keys .entry)) n
-        → StepIs (now (text .entry)) (now (starts .exit))
-        (startStep labels k (now (starts .entry)) (drop place (now (text .entry)))) r) ⌝ }
+        × StepIs (now (text .entry)) (now (starts .exit))
+        (startStep (now (labels .entry)) k (now (starts .entry)) (drop place (now (text .entry)))) r ⌝ }
 {
     let PathLine::Fields(e, start, next) = text::path_line(text, place) else {
         return Step::Refused(rules::REFUSED_FORM);
     };
-    let key = labels::label_key(text, place, e);
     let bad_start = out_of_range(start, START_MOST);
-    if keys[k] != key {
+    if !labels::is_row(labels, k, text, place, e) {
         return Step::Refused(rules::REFUSED_LABEL_UNKNOWN);
     }
     if bad_start {

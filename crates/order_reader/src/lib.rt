@@ -59,8 +59,7 @@ fn order_step(
     let OrderLine::Fields(e, n, m, next) = order_line(text, place) else {
         return Step::Refused(rules::REFUSED_FORM);
     };
-    let key = labels::label_key(text, place, e);
-    if labels::row_key(labels, k) != key {
+    if !labels::is_row(labels, k, text, place, e) {
         return Step::Refused(rules::REFUSED_LABEL_UNKNOWN);
     }
     let width = widths[k] as usize;

@@ -141,15 +141,7 @@ pub fn path_called(n: usize, labels: &[u8], name: &[u8]) -> usize
     requires { ⌜ (n ≤ 128) × (length (now labels) ≡ 1024) ⌝ }
     ensures { λ r. ⌜ r ≡ find (now (labels .entry)) n (now (name .entry)) ⌝ }
 {
-    let key = labels::label_key(name, 0, name.len());
-    let mut k: usize = 0;
-    while k < n {
-        if labels::row_key(labels, k) == key {
-            return k;
-        }
-        k += 1;
-    }
-    k
+    labels::find(labels, n, name, 0, name.len())
 }
 
 // The highest slot of a plan whose numbers are within their limits.

@@ -5,7 +5,6 @@ use mathlib.Core.Path.{_≡_}
 use mathlib.Core.List.{List}
 use lib.ListN.{length, drop}
 use Rattle.rules.specs.Sheet.{Section, halt, done}
-use Rattle.labels.specs.Keys.{Keyed}
 use Rattle.sections.specs.declared.Part.{Part}
 use Rattle.sections.specs.declared.Part.the-variants.{Over, Halt}
 
@@ -18,7 +17,3 @@ SectionIs s t x (Over e) = x ≡ done t (drop e s)
 abbrev pub PartWithin : List ℕ → Part → Type 0
 PartWithin s (Halt number line) = Unit {0}
 PartWithin s (Over e) = e ≤ length s
-
-abbrev pub PathsAre : List ℕ → List ℕ → List ℕ → List ℕ → ℕ → Section (List ℕ × List ℕ) → Part → Type 0
-PathsAre s labels widths keys n x (Halt number line) = x ≡ halt number line
-PathsAre s labels widths keys n x (Over e) = (x ≡ done (labels, widths) (drop e s)) × (e ≤ length s) × Keyed labels keys n

@@ -1,12 +1,10 @@
 // An inner crate, for the readers of sheets: the lines of a section one after the other, and the first of
 // them at fault.
 ghost use mathlib.Core.Path.{_≡_};
-ghost use mathlib.Core.List.{List};
-ghost use Prim.Native.Nat.{ℕ, _+_, _*_, _≤_};
+ghost use Prim.Native.Nat.{_+_, _*_, _≤_};
 ghost use lib.ListN.{length, drop};
 ghost use Rattle.rules.specs.Sheet.{lines, pathStep, guardStep, startStep};
-ghost use Rattle.labels.specs.Keys.{Keyed};
-ghost use Rattle.sections.specs.Says.{SectionIs, PartWithin, PathsAre};
+ghost use Rattle.sections.specs.Says.{SectionIs, PartWithin};
 use lines::Step;
 
 // The place after a section that is right, or the number of a refusal and its line.
@@ -16,25 +14,18 @@ pub enum Part {
 }
 
 // The lines of n paths.
-pub fn paths(
-    text: &[u8],
-    place: usize,
-    n: usize,
-    labels: &mut [u8],
-    widths: &mut [u16],
-    keys: &mut [usize],
-) -> Part
+pub fn paths(text: &[u8], place: usize, n: usize, labels: &mut [u8], widths: &mut [u16]) -> Part
     requires { ⌜ (place ≤ length (now text)) × (8 * n ≤ length (now labels)) × (n ≤ length (now widths))
-        × (n ≤ length (now keys)) × (n ≤ 128) ⌝ }
-    ensures { λ r. ⌜ PathsAre (now (text .entry)) (now (labels .exit)) (now (widths .exit))
-        (now (keys .exit)) n
+        × (n ≤ 128) ⌝ }
+    ensures { λ r. ⌜ PartWithin (now (text .entry)) r
+        × SectionIs (now (text .entry)) (now (labels .exit), now (widths .exit))
         (lines pathStep 2 n 0 (now (labels .entry), now (widths .entry)) (drop place (now (text .entry))))
         r ⌝ }
 {
     let mut k = 0;
     let mut i = place;
     while k < n {
-        match lines::path_step(text, i, k, labels, widths, keys) {
+        match lines::path_step(text, i, k, labels, widths) {
             Step::On(next) => {
                 i = next;
             }
@@ -53,21 +44,20 @@ pub fn guards(
     place: usize,
     n: usize,
     m: usize,
-    keys: &[usize],
+    labels: &[u8],
     guards: &mut [u8],
 ) -> Part
-    requires { ⌜ (place ≤ length (now text)) × (n ≤ 128) × (n ≤ length (now keys))
+    requires { ⌜ (place ≤ length (now text)) × (n ≤ 128) × (8 * n ≤ length (now labels))
         × (length (now guards) ≡ 16384) × (m ≤ 2000) ⌝ }
     ensures { λ r. ⌜ PartWithin (now (text .entry)) r
-        × ((labels : List ℕ) → Keyed labels (now (keys .entry)) n
-        → SectionIs (now (text .entry)) (now (guards .exit))
-        (lines (guardStep n labels) (n + 3) m 0 (now (guards .entry)) (drop place (now (text .entry))))
-        r) ⌝ }
+        × SectionIs (now (text .entry)) (now (guards .exit))
+        (lines (guardStep n (now (labels .entry))) (n + 3) m 0 (now (guards .entry))
+        (drop place (now (text .entry)))) r ⌝ }
 {
     let mut k = 0;
     let mut i = place;
     while k < m {
-        match lines::guard_step(text, i, n, keys, guards) {
+        match lines::guard_step(text, i, n, labels, guards) {
             Step::On(next) => {
                 i = next;
             }
@@ -86,20 +76,20 @@ pub fn starts(
     place: usize,
     n: usize,
     line: usize,
-    keys: &[usize],
+    labels: &[u8],
     starts: &mut [u16],
 ) -> Part
-    requires { ⌜ (place ≤ length (now text)) × (n ≤ 128) × (n ≤ length (now keys))
+    requires { ⌜ (place ≤ length (now text)) × (n ≤ 128) × (8 * n ≤ length (now labels))
         × (n ≤ length (now starts)) × (line ≤ 10000) ⌝ }
     ensures { λ r. ⌜ PartWithin (now (text .entry)) r
-        × ((labels : List ℕ) → Keyed labels (now (keys .entry)) n
-        → SectionIs (now (text .entry)) (now (starts .exit))
-        (lines (startStep labels) line n 0 (now (starts .entry)) (drop place (now (text .entry)))) r) ⌝ }
+        × SectionIs (now (text .entry)) (now (starts .exit))
+        (lines (startStep (now (labels .entry))) line n 0 (now (starts .entry))
+        (drop place (now (text .entry)))) r ⌝ }
 {
     let mut k = 0;
     let mut i = place;
     while k < n {
-        match lines::start_step(text, i, k, n, keys, starts) {
+        match lines::start_step(text, i, k, labels, starts) {
             Step::On(next) => {
                 i = next;
             }

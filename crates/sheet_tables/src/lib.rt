@@ -55,15 +55,11 @@ pub fn twice_fault(n: usize, labels: &[u8]) -> Fault
         × ((k : ℕ) → k < n → badLabel (now labels) k ≡ false) ⌝ }
     ensures { λ r. ⌜ r ≡ scan 12 (labelTwice (now (labels .entry))) n ⌝ }
 {
-    let mut keys = [0usize; rules::PATHS];
     let mut k = 0;
     while k < n {
-        let key = labels::row_key(labels, k);
-        let i = labels::find(&keys, k, key);
-        if i < k {
+        if labels::label_twice(labels, k) {
             return tables::refused(rules::REFUSED_LABEL_TWICE, k);
         }
-        keys[k] = key;
         k += 1;
     }
     tables::accepted()

@@ -1,11 +1,9 @@
 // An inner crate, for `reader`: the sections of a sheet in their fixed order, each after its count.
 ghost use mathlib.Core.Path.{_≡_};
-ghost use mathlib.Core.List.{List};
-ghost use Prim.Native.Nat.{ℕ, _≤_};
+ghost use Prim.Native.Nat.{_*_, _≤_};
 ghost use lib.ListN.{length, drop};
 ghost use Rattle.rules.specs.Tables.{lend};
 ghost use Rattle.rules.specs.Sheet.{startsPart, guardsPart, sheetFrom};
-ghost use Rattle.labels.specs.Keys.{Keyed};
 ghost use Rattle.sections.specs.Says.{SectionIs, PartWithin};
 ghost use Rattle.whole_sheet.specs.Says.{WholeIs};
 use sections::Part;
@@ -24,15 +22,14 @@ fn starts_part(
     place: usize,
     n: usize,
     line: usize,
-    keys: &[usize],
+    labels: &[u8],
     table: &mut [u16],
 ) -> Part
-    requires { ⌜ (place ≤ length (now text)) × (n ≤ 128) × (n ≤ length (now keys))
+    requires { ⌜ (place ≤ length (now text)) × (n ≤ 128) × (8 * n ≤ length (now labels))
         × (n ≤ length (now table)) × (line ≤ 9000) ⌝ }
     ensures { λ r. ⌜ PartWithin (now (text .entry)) r
-        × ((labels : List ℕ) → Keyed labels (now (keys .entry)) n
-        → SectionIs (now (text .entry)) (now (table .exit))
-        (startsPart n line labels (now (table .entry)) (drop place (now (text .entry)))) r) ⌝ }
+        × SectionIs (now (text .entry)) (now (table .exit))
+        (startsPart n line (now (labels .entry)) (now (table .entry)) (drop place (now (text .entry)))) r ⌝ }
 {
     if text.len() <= place {
         return Part::Over(place);
@@ -43,7 +40,7 @@ fn starts_part(
     if m != n {
         return Part::Halt(rules::REFUSED_COUNT, line);
     }
-    match sections::starts(text, e, n, line + 1, keys, table) {
+    match sections::starts(text, e, n, line + 1, labels, table) {
         Part::Halt(x, y) => Part::Halt(x, y),
         Part::Over(f) => {
             if f < text.len() {
@@ -59,17 +56,16 @@ fn guards_part(
     text: &[u8],
     place: usize,
     n: usize,
-    keys: &[usize],
+    labels: &[u8],
     square: &mut [u8],
     table: &mut [u16],
 ) -> Part
-    requires { ⌜ (place ≤ length (now text)) × (n ≤ 128) × (n ≤ length (now keys))
+    requires { ⌜ (place ≤ length (now text)) × (n ≤ 128) × (8 * n ≤ length (now labels))
         × (length (now square) ≡ 16384) × (n ≤ length (now table)) ⌝ }
     ensures { λ r. ⌜ PartWithin (now (text .entry)) r
-        × ((labels : List ℕ) → Keyed labels (now (keys .entry)) n
-        → SectionIs (now (text .entry)) (now (square .exit), now (table .exit))
-        (guardsPart n labels (now (square .entry)) (now (table .entry)) (drop place (now (text .entry))))
-        r) ⌝ }
+        × SectionIs (now (text .entry)) (now (square .exit), now (table .exit))
+        (guardsPart n (now (labels .entry)) (now (square .entry)) (now (table .entry))
+        (drop place (now (text .entry)))) r ⌝ }
 {
     let Amount::Is(m, e) = text::count_line(text, place, &text::GUARDS_WORD) else {
         return Part::Halt(rules::REFUSED_FORM, n + 2);
@@ -77,9 +73,9 @@ fn guards_part(
     if rules::PAIRS_MOST < m {
         return Part::Halt(rules::REFUSED_COUNT, n + 2);
     }
-    match sections::guards(text, e, n, m, keys, square) {
+    match sections::guards(text, e, n, m, labels, square) {
         Part::Halt(x, y) => Part::Halt(x, y),
-        Part::Over(f) => starts_part(text, f, n, n + m + 3, keys, table),
+        Part::Over(f) => starts_part(text, f, n, n + m + 3, labels, table),
     }
 }
 
@@ -106,10 +102,9 @@ pub fn sheet_parts(
     if rules::PATHS < n {
         return Whole::Stop(rules::REFUSED_COUNT, 1);
     }
-    let mut keys = [0usize; rules::PATHS];
-    match sections::paths(text, e, n, labels, widths, &mut keys) {
+    match sections::paths(text, e, n, labels, widths) {
         Part::Halt(x, y) => Whole::Stop(x, y),
-        Part::Over(f) => match guards_part(text, f, n, &keys, square, table) {
+        Part::Over(f) => match guards_part(text, f, n, labels, square, table) {
             Part::Halt(x, y) => Whole::Stop(x, y),
             Part::Over(_) => Whole::Sheet(n),
         },

@@ -1,5 +1,9 @@
+use Prim.Native.Nat.{_+_, _*_}
 use borrow.Author.Needs.{needs}
 use denote.Ref.{now}
+use Rattle.rules.specs.Tables.{at, labelByte}
+use Rattle.text.specs.Says.{part}
+use Rattle.labels.specs.Keys.{key-of}
 use Rattle.labels.proofs.Rows.{row-part}
 use Rattle.labels.proofs.row_key.Statement.{statement}
 use Rattle.labels.proofs.row_key.Tie as tie
@@ -14,7 +18,10 @@ label-key-requires : tie.Need-label-key-requires
 label-key-requires c κs = search needs
 
 returns : tie.Need-returns
-returns c = let a = c .before .before .args in row-part (now (a .labels)) (a .k) (c .label-key .result) (c .label-key .ensures)
+returns c =
+    let a = c .before .before .args in
+    let labels = now (a .labels) in
+    key-of (labelByte labels (a .k)) (at (part labels (8 * a .k) (8 * a .k + 8))) (c .label-key .result) (row-part labels (a .k)) (c .label-key .ensures)
 
 pub row-key-spec : {M : Type 1} → statement M
 row-key-spec = tie.close (tie.spec mul-row add-label-key label-key-requires returns)

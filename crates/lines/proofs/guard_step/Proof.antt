@@ -1,13 +1,7 @@
-use Prim.Native.Nat.{ℕ}
-use mathlib.Core.Path.{_≡_, sym, _∙_}
-use mathlib.Core.List.{List}
 use native.Mathlib.Omega.{arith}
 use borrow.Author.Needs.{needs}
 use lib.ListN.{drop, length-set}
 use denote.Ref.{now}
-use Rattle.rules.specs.Tables.{at}
-use Rattle.rules.specs.Sheet.{find}
-use Rattle.labels.specs.Keys.{Keyed, find-key}
 use Rattle.text.specs.Says.{part}
 use Rattle.lines.specs.Says.{GuardLineIs}
 use Rattle.lines.specs.declared.GuardLine.the-variants.{Pair, Unpaired}
@@ -17,18 +11,6 @@ use Rattle.lines.proofs.guard_step.Tie as tie
 
 at-e : (c : tie.After-e) → GuardLineIs (now (c .before .before .before .before .before .before .args .text)) (c .before .before .before .before .before .before .args .place) (Pair (c .e .given .0 .0) (c .e .given .0 .1 .0) (c .e .given .0 .1 .1 .0) (c .e .given .0 .1 .1 .1 .0) (c .e .given .0 .1 .1 .1 .1 .0))
 at-e c = rw (c .e .given .1) at (c .before .before .guard-line .ensures)
-
-first-found : (c : tie.After-find2) (labels : List ℕ) → Keyed labels (now (c .before .before .before .before .before .before .before .before .before .before .before .args .keys)) (c .before .before .before .before .before .before .before .before .before .before .before .args .n) → c .before .find .result ≡ find labels (c .before .before .before .before .before .before .before .before .before .before .before .args .n) (part (now (c .before .before .before .before .before .before .before .before .before .before .before .args .text)) (c .before .before .before .before .before .before .before .before .before .before .before .args .place) (c .before .before .before .before .before .e .given .0 .0))
-first-found c labels keyed =
-    let a = c .before .before .before .before .before .before .before .before .before .before .before .args in
-    let g = c .before .before .before .before .before .e .given .0 in
-    c .before .find .ensures .0 ∙ sym (find-key labels (now (a .keys)) (part (now (a .text)) (a .place) (g .0)) (a .n) (c .before .before .before .label-key .result) keyed (c .before .before .before .label-key .ensures))
-
-second-found : (c : tie.After-find2) (labels : List ℕ) → Keyed labels (now (c .before .before .before .before .before .before .before .before .before .before .before .args .keys)) (c .before .before .before .before .before .before .before .before .before .before .before .args .n) → c .find2 .result ≡ find labels (c .before .before .before .before .before .before .before .before .before .before .before .args .n) (part (now (c .before .before .before .before .before .before .before .before .before .before .before .args .text)) (c .before .before .before .before .before .e .given .0 .1 .0) (c .before .before .before .before .before .e .given .0 .1 .1 .0))
-second-found c labels keyed =
-    let a = c .before .before .before .before .before .before .before .before .before .before .before .args in
-    let g = c .before .before .before .before .before .e .given .0 in
-    c .find2 .ensures .0 ∙ sym (find-key labels (now (a .keys)) (part (now (a .text)) (g .1 .0) (g .1 .1 .0)) (a .n) (c .before .before .label-key2 .result) keyed (c .before .before .label-key2 .ensures))
 
 guard-line-requires : tie.Need-guard-line-requires
 guard-line-requires c κs = search needs
@@ -43,49 +25,34 @@ returns : tie.Need-returns
 returns c =
     let a = c .before .before .before .before .before .before .args in
     let z : GuardLineIs (now (a .text)) (a .place) Unpaired = rw (c .enum-told .given .1) at (c .before .before .guard-line .ensures) in
-    (tt, λ labels keyed. guard-ill (a .n) labels (now (a .guards)) (drop (a .place) (now (a .text))) z)
-
-label-key-requires : tie.Need-label-key-requires
-label-key-requires c κs = omega (arith, at-e (c .before))
-
-label-key-requires-2 : tie.Need-label-key-requires-2
-label-key-requires-2 c κs = omega (arith, at-e (c .before .before))
+    (tt, guard-ill (a .n) (now (a .labels)) (now (a .guards)) (drop (a .place) (now (a .text))) z)
 
 find-requires : tie.Need-find-requires
-find-requires c κs = search needs
+find-requires c κs = omega (arith, at-e (c .before))
 
 find-requires-2 : tie.Need-find-requires-2
-find-requires-2 c κs = search needs
+find-requires-2 c κs = omega (arith, at-e (c .before .before))
 
 returns-2 : tie.Need-returns-2
 returns-2 c =
-    let a = c .before .before .before .before .before .before .before .before .before .before .before .before .args in
-    let g = c .before .before .before .before .before .before .e .given .0 in
-    let s = now (a .text) in (
-      tt,
-      λ labels keyed.
-          guard-first (a .n) labels (now (a .guards)) (drop (a .place) s) (part s (a .place) (g .0)) (part s (g .1 .0) (g .1 .1 .0)) (g .1 .1 .1 .0) (drop (g .1 .1 .1 .1 .0) s) (at-e (c .before .before .before .before .before .before) .0) (c .before .before .find .result) (c .before .find2 .result) (first-found (c .before) labels keyed) (second-found (c .before) labels keyed) (c .if1 .taken),
-    )
+    let a = c .before .before .before .before .before .before .before .before .before .before .args in
+    let g = c .before .before .before .before .e .given .0 in
+    let s = now (a .text) in
+    (tt, guard-first (a .n) (now (a .labels)) (now (a .guards)) (drop (a .place) s) (part s (a .place) (g .0)) (part s (g .1 .0) (g .1 .1 .0)) (g .1 .1 .1 .0) (drop (g .1 .1 .1 .1 .0) s) (at-e (c .before .before .before .before) .0) (c .before .before .find .result) (c .before .find2 .result) (c .before .before .find .ensures) (c .before .find2 .ensures) (c .if1 .taken))
 
 returns-3 : tie.Need-returns-3
 returns-3 c =
-    let a = c .before .before .before .before .before .before .before .before .before .before .before .before .before .args in
-    let g = c .before .before .before .before .before .before .before .e .given .0 in
-    let s = now (a .text) in (
-      tt,
-      λ labels keyed.
-          guard-second (a .n) labels (now (a .guards)) (drop (a .place) s) (part s (a .place) (g .0)) (part s (g .1 .0) (g .1 .1 .0)) (g .1 .1 .1 .0) (drop (g .1 .1 .1 .1 .0) s) (at-e (c .before .before .before .before .before .before .before) .0) (c .before .before .before .find .result) (c .before .before .find2 .result) (first-found (c .before .before) labels keyed) (second-found (c .before .before) labels keyed) (c .before .if1 .left) (c .if2 .taken),
-    )
+    let a = c .before .before .before .before .before .before .before .before .before .before .before .args in
+    let g = c .before .before .before .before .before .e .given .0 in
+    let s = now (a .text) in
+    (tt, guard-second (a .n) (now (a .labels)) (now (a .guards)) (drop (a .place) s) (part s (a .place) (g .0)) (part s (g .1 .0) (g .1 .1 .0)) (g .1 .1 .1 .0) (drop (g .1 .1 .1 .1 .0) s) (at-e (c .before .before .before .before .before) .0) (c .before .before .before .find .result) (c .before .before .find2 .result) (c .before .before .before .find .ensures) (c .before .before .find2 .ensures) (c .before .if1 .left) (c .if2 .taken))
 
 returns-4 : tie.Need-returns-4
 returns-4 c =
-    let a = c .before .before .before .before .before .before .before .before .before .before .before .before .before .before .args in
-    let g = c .before .before .before .before .before .before .before .before .e .given .0 in
-    let s = now (a .text) in (
-      tt,
-      λ labels keyed.
-          guard-self (a .n) labels (now (a .guards)) (drop (a .place) s) (part s (a .place) (g .0)) (part s (g .1 .0) (g .1 .1 .0)) (g .1 .1 .1 .0) (drop (g .1 .1 .1 .1 .0) s) (at-e (c .before .before .before .before .before .before .before .before) .0) (c .before .before .before .before .find .result) (c .before .before .before .find2 .result) (first-found (c .before .before .before) labels keyed) (second-found (c .before .before .before) labels keyed) (c .before .before .if1 .left) (c .before .if2 .left) (c .if3 .taken),
-    )
+    let a = c .before .before .before .before .before .before .before .before .before .before .before .before .args in
+    let g = c .before .before .before .before .before .before .e .given .0 in
+    let s = now (a .text) in
+    (tt, guard-self (a .n) (now (a .labels)) (now (a .guards)) (drop (a .place) s) (part s (a .place) (g .0)) (part s (g .1 .0) (g .1 .1 .0)) (g .1 .1 .1 .0) (drop (g .1 .1 .1 .1 .0) s) (at-e (c .before .before .before .before .before .before) .0) (c .before .before .before .before .find .result) (c .before .before .before .find2 .result) (c .before .before .before .before .find .ensures) (c .before .before .before .find2 .ensures) (c .before .before .if1 .left) (c .before .if2 .left) (c .if3 .taken))
 
 mul-given : tie.Need-mul-given
 mul-given c = search needs
@@ -98,23 +65,17 @@ slice-read-given c = search needs
 
 returns-5 : tie.Need-returns-5
 returns-5 c =
-    let a = c .before .before .before .before .before .before .before .before .before .before .before .before .before .before .before .before .args in
-    let g = c .before .before .before .before .before .before .before .before .before .before .e .given .0 in
-    let s = now (a .text) in (
-      tt,
-      λ labels keyed.
-          guard-twice (a .n) labels (now (a .guards)) (drop (a .place) s) (part s (a .place) (g .0)) (part s (g .1 .0) (g .1 .1 .0)) (g .1 .1 .1 .0) (drop (g .1 .1 .1 .1 .0) s) (at-e (c .before .before .before .before .before .before .before .before .before .before) .0) (c .before .before .before .before .before .before .find .result) (c .before .before .before .before .before .find2 .result) (first-found (c .before .before .before .before .before) labels keyed) (second-found (c .before .before .before .before .before) labels keyed) (c .before .before .before .before .if1 .left) (c .before .before .before .if2 .left) (c .before .before .if3 .left) (c .if4 .taken),
-    )
+    let a = c .before .before .before .before .before .before .before .before .before .before .before .before .before .before .args in
+    let g = c .before .before .before .before .before .before .before .before .e .given .0 in
+    let s = now (a .text) in
+    (tt, guard-twice (a .n) (now (a .labels)) (now (a .guards)) (drop (a .place) s) (part s (a .place) (g .0)) (part s (g .1 .0) (g .1 .1 .0)) (g .1 .1 .1 .0) (drop (g .1 .1 .1 .1 .0) s) (at-e (c .before .before .before .before .before .before .before .before) .0) (c .before .before .before .before .before .before .find .result) (c .before .before .before .before .before .find2 .result) (c .before .before .before .before .before .before .find .ensures) (c .before .before .before .before .before .find2 .ensures) (c .before .before .before .before .if1 .left) (c .before .before .before .if2 .left) (c .before .before .if3 .left) (c .if4 .taken))
 
 returns-6 : tie.Need-returns-6
 returns-6 c =
-    let a = c .before .before .before .before .before .before .before .before .before .before .before .before .before .before .before .before .before .args in
-    let g = c .before .before .before .before .before .before .before .before .before .before .before .e .given .0 in
-    let s = now (a .text) in (
-      tt,
-      λ labels keyed.
-          guard-over (a .n) labels (now (a .guards)) (drop (a .place) s) (part s (a .place) (g .0)) (part s (g .1 .0) (g .1 .1 .0)) (g .1 .1 .1 .0) (drop (g .1 .1 .1 .1 .0) s) (at-e (c .before .before .before .before .before .before .before .before .before .before .before) .0) (c .before .before .before .before .before .before .before .find .result) (c .before .before .before .before .before .before .find2 .result) (first-found (c .before .before .before .before .before .before) labels keyed) (second-found (c .before .before .before .before .before .before) labels keyed) (c .before .before .before .before .before .if1 .left) (c .before .before .before .before .if2 .left) (c .before .before .before .if3 .left) (c .before .if4 .left) (c .if5 .taken),
-    )
+    let a = c .before .before .before .before .before .before .before .before .before .before .before .before .before .before .before .args in
+    let g = c .before .before .before .before .before .before .before .before .before .e .given .0 in
+    let s = now (a .text) in
+    (tt, guard-over (a .n) (now (a .labels)) (now (a .guards)) (drop (a .place) s) (part s (a .place) (g .0)) (part s (g .1 .0) (g .1 .1 .0)) (g .1 .1 .1 .0) (drop (g .1 .1 .1 .1 .0) s) (at-e (c .before .before .before .before .before .before .before .before .before) .0) (c .before .before .before .before .before .before .before .find .result) (c .before .before .before .before .before .before .find2 .result) (c .before .before .before .before .before .before .before .find .ensures) (c .before .before .before .before .before .before .find2 .ensures) (c .before .before .before .before .before .if1 .left) (c .before .before .before .before .if2 .left) (c .before .before .before .if3 .left) (c .before .if4 .left) (c .if5 .taken))
 
 cast-guards : tie.Need-cast-guards
 cast-guards c = search needs
@@ -145,13 +106,10 @@ same-length c = search needs
 
 returns-7 : tie.Need-returns-7
 returns-7 c =
-    let a = c .before .before .before .before .before .before .before .before .before .before .before .before .before .before .before .before .before .args in
-    let g = c .before .before .before .before .before .before .before .before .before .before .before .e .given .0 in
-    let s = now (a .text) in (
-      at-e (c .before .before .before .before .before .before .before .before .before .before .before) .5,
-      λ labels keyed.
-          guard-fine (a .n) labels (now (a .guards)) (drop (a .place) s) (part s (a .place) (g .0)) (part s (g .1 .0) (g .1 .1 .0)) (g .1 .1 .1 .0) (drop (g .1 .1 .1 .1 .0) s) (at-e (c .before .before .before .before .before .before .before .before .before .before .before) .0) (c .before .before .before .before .before .before .before .find .result) (c .before .before .before .before .before .before .find2 .result) (first-found (c .before .before .before .before .before .before) labels keyed) (second-found (c .before .before .before .before .before .before) labels keyed) (c .before .before .before .before .before .if1 .left) (c .before .before .before .before .if2 .left) (c .before .before .before .if3 .left) (c .before .if4 .left) (c .if5 .left),
-    )
+    let a = c .before .before .before .before .before .before .before .before .before .before .before .before .before .before .before .args in
+    let g = c .before .before .before .before .before .before .before .before .before .e .given .0 in
+    let s = now (a .text) in
+    (at-e (c .before .before .before .before .before .before .before .before .before) .5, guard-fine (a .n) (now (a .labels)) (now (a .guards)) (drop (a .place) s) (part s (a .place) (g .0)) (part s (g .1 .0) (g .1 .1 .0)) (g .1 .1 .1 .0) (drop (g .1 .1 .1 .1 .0) s) (at-e (c .before .before .before .before .before .before .before .before .before) .0) (c .before .before .before .before .before .before .before .find .result) (c .before .before .before .before .before .before .find2 .result) (c .before .before .before .before .before .before .before .find .ensures) (c .before .before .before .before .before .before .find2 .ensures) (c .before .before .before .before .before .if1 .left) (c .before .before .before .before .if2 .left) (c .before .before .before .if3 .left) (c .before .if4 .left) (c .if5 .left))
 
 pub guard-step-spec : {M : Type 1} → statement M
 guard-step-spec =
@@ -161,8 +119,6 @@ guard-step-spec =
     enum-known-e
     enum-told
     returns
-    label-key-requires
-    label-key-requires-2
     find-requires
     find-requires-2
     returns-2

@@ -1,11 +1,8 @@
-use mathlib.Core.Path.{_≡_, _∙_}
+use mathlib.Core.Path.{sym, _∙_}
 use native.Mathlib.Omega.{arith}
-use borrow.Author.Tests.{eq-eqb, ne-eqb}
+use borrow.Author.Tests.{not-true, not-false}
 use lib.ListN.{drop}
-use lib.Dec.{eqb}
 use denote.Ref.{now}
-use Rattle.rules.specs.Sheet.{isRow}
-use Rattle.labels.specs.Keys.{row-key}
 use Rattle.text.specs.Says.{part}
 use Rattle.sheet_laws.specs.Lines.{order-ill, order-other, order-width, order-none, order-fine}
 use Rattle.sheet_laws.specs.Grid.{lowered}
@@ -17,11 +14,6 @@ use Rattle.order_reader.proofs.order_step.Tie as tie
 
 at-e : (c : tie.After-e) → OrderLineIs (now (c .before .before .before .before .before .before .before .args .text)) (c .before .before .before .before .before .before .before .args .place) (Fields (c .e .given .0 .0) (c .e .given .0 .1 .0) (c .e .given .0 .1 .1 .0) (c .e .given .0 .1 .1 .1 .0))
 at-e c = rw (c .e .given .1) at (c .before .before .order-line .ensures)
-
-its-row : (c : tie.After-row-key) → isRow (now (c .before .before .before .before .before .before .before .before .before .before .args .labels)) (part (now (c .before .before .before .before .before .before .before .before .before .before .args .text)) (c .before .before .before .before .before .before .before .before .before .before .args .place) (c .before .before .before .e .given .0 .0)) (c .before .before .before .before .before .before .before .before .before .before .args .k) ≡ eqb (c .row-key .result) (c .before .label-key .result)
-its-row c =
-    let a = c .before .before .before .before .before .before .before .before .before .before .args in
-    row-key (now (a .labels)) (part (now (a .text)) (a .place) (c .before .before .before .e .given .0 .0)) (a .k) (c .row-key .result) (c .before .label-key .result) (c .row-key .ensures) (c .before .label-key .ensures)
 
 order-line-requires : tie.Need-order-line-requires
 order-line-requires c κs = search needs
@@ -38,18 +30,15 @@ returns c =
     let z : OrderLineIs (now (a .text)) (a .place) Malformed = rw (c .enum-told .given .1) at (c .before .before .order-line .ensures) in
     (tt, order-ill (lowered (a .anchor)) (now (a .labels)) (now (a .widths)) (a .k) (now (a .starts)) (drop (a .place) (now (a .text))) z)
 
-label-key-requires : tie.Need-label-key-requires
-label-key-requires c κs = omega (arith, at-e (c .before))
-
-row-key-requires : tie.Need-row-key-requires
-row-key-requires c κs = search needs
+is-row-requires : tie.Need-is-row-requires
+is-row-requires c κs = omega (arith, at-e (c .before))
 
 returns-2 : tie.Need-returns-2
 returns-2 c =
-    let a = c .before .before .before .before .before .before .before .before .before .before .before .args in
-    let g = c .before .before .before .before .e .given .0 in
+    let a = c .before .before .before .before .before .before .before .before .before .before .args in
+    let g = c .before .before .before .e .given .0 in
     let s = now (a .text) in
-    (tt, order-other (lowered (a .anchor)) (now (a .labels)) (now (a .widths)) (a .k) (now (a .starts)) (drop (a .place) s) (part s (a .place) (g .0)) (lowered (g .1 .0)) (g .1 .1 .0) (drop (g .1 .1 .1 .0) s) (at-e (c .before .before .before .before) .0) (its-row (c .before) ∙ ne-eqb _ _ (c .if1 .taken)))
+    (tt, order-other (lowered (a .anchor)) (now (a .labels)) (now (a .widths)) (a .k) (now (a .starts)) (drop (a .place) s) (part s (a .place) (g .0)) (lowered (g .1 .0)) (g .1 .1 .0) (drop (g .1 .1 .1 .0) s) (at-e (c .before .before .before) .0) (sym (c .before .is-row .ensures) ∙ not-true _ (c .if1 .taken)))
 
 mul-width : tie.Need-mul-width
 mul-width c = search needs
@@ -58,24 +47,24 @@ shared-slice-read-width : tie.Need-shared-slice-read-width
 shared-slice-read-width c = search needs
 
 cast-width : tie.Need-cast-width
-cast-width c = omega (arith, c .shared-slice-known4 .given (c .before .before .before .before .before .before .before .before .before .before .before .before .args .k))
+cast-width c = omega (arith, c .shared-slice-known4 .given (c .before .before .before .before .before .before .before .before .before .before .before .args .k))
 
 returns-3 : tie.Need-returns-3
 returns-3 c =
-    let a = c .before .before .before .before .before .before .before .before .before .before .before .before .before .args in
-    let g = c .before .before .before .before .before .before .e .given .0 in
+    let a = c .before .before .before .before .before .before .before .before .before .before .before .before .args in
+    let g = c .before .before .before .before .before .e .given .0 in
     let s = now (a .text) in
-    (tt, order-width (lowered (a .anchor)) (now (a .labels)) (now (a .widths)) (a .k) (now (a .starts)) (drop (a .place) s) (part s (a .place) (g .0)) (lowered (g .1 .0)) (g .1 .1 .0) (drop (g .1 .1 .1 .0) s) (at-e (c .before .before .before .before .before .before) .0) (its-row (c .before .before .before) ∙ eq-eqb _ _ (c .before .before .if1 .left)) (c .if2 .taken))
+    (tt, order-width (lowered (a .anchor)) (now (a .labels)) (now (a .widths)) (a .k) (now (a .starts)) (drop (a .place) s) (part s (a .place) (g .0)) (lowered (g .1 .0)) (g .1 .1 .0) (drop (g .1 .1 .1 .0) s) (at-e (c .before .before .before .before .before) .0) (sym (c .before .before .before .is-row .ensures) ∙ not-false _ (c .before .before .if1 .left)) (c .if2 .taken))
 
 start-of-requires : tie.Need-start-of-requires
-start-of-requires c κs = omega (arith, at-e (c .before .before .before .before .before .before), c .before .shared-slice-known4 .given (c .before .before .before .before .before .before .before .before .before .before .before .before .before .args .k))
+start-of-requires c κs = omega (arith, at-e (c .before .before .before .before .before), c .before .shared-slice-known4 .given (c .before .before .before .before .before .before .before .before .before .before .before .before .args .k))
 
 returns-4 : tie.Need-returns-4
 returns-4 c =
-    let a = c .before .before .before .before .before .before .before .before .before .before .before .before .before .before .before .args in
-    let g = c .before .before .before .before .before .before .before .before .e .given .0 in
+    let a = c .before .before .before .before .before .before .before .before .before .before .before .before .before .before .args in
+    let g = c .before .before .before .before .before .before .before .e .given .0 in
     let s = now (a .text) in
-    (tt, order-none (lowered (a .anchor)) (now (a .labels)) (now (a .widths)) (a .k) (now (a .starts)) (drop (a .place) s) (part s (a .place) (g .0)) (lowered (g .1 .0)) (g .1 .1 .0) (drop (g .1 .1 .1 .0) s) (at-e (c .before .before .before .before .before .before .before .before) .0) (its-row (c .before .before .before .before .before) ∙ eq-eqb _ _ (c .before .before .before .before .if1 .left)) (c .before .before .if2 .left) (c .before .start-of .result) (c .before .start-of .ensures .0) (c .if3 .taken))
+    (tt, order-none (lowered (a .anchor)) (now (a .labels)) (now (a .widths)) (a .k) (now (a .starts)) (drop (a .place) s) (part s (a .place) (g .0)) (lowered (g .1 .0)) (g .1 .1 .0) (drop (g .1 .1 .1 .0) s) (at-e (c .before .before .before .before .before .before .before) .0) (sym (c .before .before .before .before .before .is-row .ensures) ∙ not-false _ (c .before .before .before .before .if1 .left)) (c .before .before .if2 .left) (c .before .start-of .result) (c .before .start-of .ensures .0) (c .if3 .taken))
 
 cast-starts : tie.Need-cast-starts
 cast-starts c = search needs
@@ -91,10 +80,10 @@ same-length c = search needs
 
 returns-5 : tie.Need-returns-5
 returns-5 c =
-    let a = c .before .before .before .before .before .before .before .before .before .before .before .before .before .before .before .args in
-    let g = c .before .before .before .before .before .before .before .before .e .given .0 in
+    let a = c .before .before .before .before .before .before .before .before .before .before .before .before .before .before .args in
+    let g = c .before .before .before .before .before .before .before .e .given .0 in
     let s = now (a .text) in
-    (at-e (c .before .before .before .before .before .before .before .before) .4, order-fine (lowered (a .anchor)) (now (a .labels)) (now (a .widths)) (a .k) (now (a .starts)) (drop (a .place) s) (part s (a .place) (g .0)) (lowered (g .1 .0)) (g .1 .1 .0) (drop (g .1 .1 .1 .0) s) (at-e (c .before .before .before .before .before .before .before .before) .0) (its-row (c .before .before .before .before .before) ∙ eq-eqb _ _ (c .before .before .before .before .if1 .left)) (c .before .before .if2 .left) (c .before .start-of .result) (c .before .start-of .ensures .0) (omega (arith, c .if3 .left)))
+    (at-e (c .before .before .before .before .before .before .before) .4, order-fine (lowered (a .anchor)) (now (a .labels)) (now (a .widths)) (a .k) (now (a .starts)) (drop (a .place) s) (part s (a .place) (g .0)) (lowered (g .1 .0)) (g .1 .1 .0) (drop (g .1 .1 .1 .0) s) (at-e (c .before .before .before .before .before .before .before) .0) (sym (c .before .before .before .before .before .is-row .ensures) ∙ not-false _ (c .before .before .before .before .if1 .left)) (c .before .before .if2 .left) (c .before .start-of .result) (c .before .start-of .ensures .0) (omega (arith, c .if3 .left)))
 
 pub order-step-spec : {M : Type 1} → statement M
 order-step-spec =
@@ -104,8 +93,7 @@ order-step-spec =
     enum-known-e
     enum-told
     returns
-    label-key-requires
-    row-key-requires
+    is-row-requires
     returns-2
     mul-width
     shared-slice-read-width

@@ -1,14 +1,11 @@
-use Prim.Native.Nat.{ℕ, _+_, _-_, _≤_}
+use Prim.Native.Nat.{_+_, _-_, _≤_}
 use mathlib.Core.Path.{_≡_, refl, sym, _∙_}
-use mathlib.Core.List.{List}
 use native.Mathlib.Omega.{arith}
 use native.Mathlib.Nat.{sub-zero}
 use borrow.Author.Needs.{needs}
 use lib.ListN.{length, drop}
 use denote.Ref.{now}
-use Rattle.rules.specs.Tables.{at}
 use Rattle.rules.specs.Sheet.{lines, guardStep}
-use Rattle.labels.specs.Keys.{Keyed}
 use Rattle.lines.specs.Says.{StepIs, StepWithin}
 use Rattle.lines.specs.declared.Step.the-variants.{On, Refused}
 use Rattle.sheet_laws.specs.Lines.{lines-step, lines-halt, lines-end, guard-any}
@@ -16,13 +13,13 @@ use Rattle.sections.proofs.guards.Statement.{statement}
 use Rattle.sections.proofs.guards.Tie as tie
 
 abbrev Inv-loop : tie.InvT-loop
-Inv-loop text place n m keys guards₀ k₀ i₀ guards k i = ((labels : List ℕ) → Keyed labels keys n → lines (guardStep n labels) (n + 3) (m - k) k guards (drop i text) ≡ lines (guardStep n labels) (n + 3) m 0 guards₀ (drop place text)) × (k ≤ m) × (i ≤ length text) × (length guards ≡ length guards₀)
+Inv-loop text place n m labels guards₀ k₀ i₀ guards k i = (lines (guardStep n labels) (n + 3) (m - k) k guards (drop i text) ≡ lines (guardStep n labels) (n + 3) m 0 guards₀ (drop place text)) × (k ≤ m) × (i ≤ length text) × (length guards ≡ length guards₀)
 
 abbrev μ-loop : tie.MeasureT-loop
-μ-loop text place n m keys guards₀ k₀ i₀ guards k i = m - k
+μ-loop text place n m labels guards₀ k₀ i₀ guards k i = m - k
 
 loop-holds : tie.Need-loop-holds Inv-loop μ-loop
-loop-holds c = (λ labels keyed. rw sub-zero, omega arith, omega arith, refl)
+loop-holds c = (rw sub-zero, omega arith, omega arith, refl)
 
 guard-step-requires : tie.Need-guard-step-requires Inv-loop μ-loop
 guard-step-requires c κs = omega arith
@@ -45,12 +42,9 @@ same-length c = c .before .before .before .before .before .guard-step .kept .1 .
 returns : tie.Need-returns Inv-loop μ-loop
 returns c =
     let a = c .before .before .before .before .before .before .before .before .before .before .before .before .args in
-    let o = c .before .before .before .before .before .before .before .before .loop in (
-      tt,
-      λ labels keyed.
-          let z : StepIs (now (a .text)) (c .before .before .before .before .before .guard-step .last .1 .1 .1 .1 .0) (guardStep (a .n) labels 0 (o .guards) (drop (o .i) (now (a .text)))) (Refused (c .before .number .given .0 .0)) = (rw (c .before .number .given .1) at (c .before .before .before .before .before .guard-step .ensures)) .1 labels keyed in
-          sym (o .inv .0 labels keyed) ∙ lines-halt (guardStep (a .n) labels) (a .n + 3) (a .m) (o .k) (o .guards) (drop (o .i) (now (a .text))) (c .before .number .given .0 .0) (c .before .before .before .before .before .before .before .loop-test .taken) (guard-any (a .n) labels (o .k) (o .guards) (drop (o .i) (now (a .text))) ∙ z),
-    )
+    let o = c .before .before .before .before .before .before .before .before .loop in
+    let z : StepIs (now (a .text)) (c .before .before .before .before .before .guard-step .last .1 .1 .1 .1 .0) (guardStep (a .n) (now (a .labels)) 0 (o .guards) (drop (o .i) (now (a .text)))) (Refused (c .before .number .given .0 .0)) = (rw (c .before .number .given .1) at (c .before .before .before .before .before .guard-step .ensures)) .1 in
+    (tt, sym (o .inv .0) ∙ lines-halt (guardStep (a .n) (now (a .labels))) (a .n + 3) (a .m) (o .k) (o .guards) (drop (o .i) (now (a .text))) (c .before .number .given .0 .0) (c .before .before .before .before .before .before .before .loop-test .taken) (guard-any (a .n) (now (a .labels)) (o .k) (o .guards) (drop (o .i) (now (a .text))) ∙ z))
 
 add-k : tie.Need-add-k Inv-loop μ-loop
 add-k c = omega arith
@@ -62,10 +56,9 @@ loop-again : tie.Need-loop-again Inv-loop μ-loop
 loop-again c =
     let a = c .before .before .before .before .before .before .before .before .before .before .before .before .args in
     let o = c .before .before .before .before .before .before .before .before .loop in
-    let y : StepWithin (now (a .text)) (On (c .before .next .given .0 .0)) = (rw (c .before .next .given .1) at (c .before .before .before .before .before .guard-step .ensures)) .0 in (
-      λ labels keyed.
-          let z : StepIs (now (a .text)) (c .before .before .before .before .before .guard-step .last .1 .1 .1 .1 .0) (guardStep (a .n) labels 0 (o .guards) (drop (o .i) (now (a .text)))) (On (c .before .next .given .0 .0)) = (rw (c .before .next .given .1) at (c .before .before .before .before .before .guard-step .ensures)) .1 labels keyed in
-          sym (lines-step (guardStep (a .n) labels) (a .n + 3) (a .m) (o .k) (o .guards) (drop (o .i) (now (a .text))) _ _ (c .before .before .before .before .before .before .before .loop-test .taken) (guard-any (a .n) labels (o .k) (o .guards) (drop (o .i) (now (a .text))) ∙ z)) ∙ o .inv .0 labels keyed,
+    let y : StepWithin (now (a .text)) (On (c .before .next .given .0 .0)) = (rw (c .before .next .given .1) at (c .before .before .before .before .before .guard-step .ensures)) .0 in
+    let z : StepIs (now (a .text)) (c .before .before .before .before .before .guard-step .last .1 .1 .1 .1 .0) (guardStep (a .n) (now (a .labels)) 0 (o .guards) (drop (o .i) (now (a .text)))) (On (c .before .next .given .0 .0)) = (rw (c .before .next .given .1) at (c .before .before .before .before .before .guard-step .ensures)) .1 in (
+      sym (lines-step (guardStep (a .n) (now (a .labels))) (a .n + 3) (a .m) (o .k) (o .guards) (drop (o .i) (now (a .text))) _ _ (c .before .before .before .before .before .before .before .loop-test .taken) (guard-any (a .n) (now (a .labels)) (o .k) (o .guards) (drop (o .i) (now (a .text))) ∙ z)) ∙ o .inv .0,
       omega arith,
       y,
       c .before .before .before .before .before .guard-step .kept .1 .1 .1 .1 .0 ∙ c .before .before .before .before .before .before .before .before .loop .inv .3,
@@ -78,7 +71,7 @@ returns-2 : tie.Need-returns-2 Inv-loop μ-loop
 returns-2 c =
     let a = c .before .before .before .before .before .args in
     let o = c .before .loop in
-    (o .inv .2, λ labels keyed. sym (o .inv .0 labels keyed) ∙ lines-end (guardStep (a .n) labels) (a .n + 3) (a .m) (o .k) (o .guards) (drop (o .i) (now (a .text))) (c .loop-test .left))
+    (o .inv .2, sym (o .inv .0) ∙ lines-end (guardStep (a .n) (now (a .labels))) (a .n + 3) (a .m) (o .k) (o .guards) (drop (o .i) (now (a .text))) (c .loop-test .left))
 
 pub guards-spec : {M : Type 1} → statement M
 guards-spec =

@@ -4,7 +4,6 @@ use native.Mathlib.Omega.{arith}
 use borrow.Author.Needs.{needs}
 use lib.ListN.{drop}
 use denote.Ref.{now}
-use Rattle.rules.specs.Tables.{at}
 use Rattle.rules.specs.Text.{guardsWord}
 use Rattle.rules.specs.Sheet.{done, lines, guardStep, startsPart, guardsPart, after}
 use Rattle.text.specs.Says.{CountIs}
@@ -42,7 +41,7 @@ returns c =
     let a = c .before .before .before .before .before .before .before .before .args in
     let s = now (a .text) in
     let z : CountIs s (a .place) guardsWord Unread = rw (c .enum-told .given .1) at (c .before .before .count-line .ensures) in
-    (tt, λ labels keyed. guards-ill (a .n) labels (now (a .square)) (now (a .table)) (drop (a .place) s) z)
+    (tt, guards-ill (a .n) (now (a .labels)) (now (a .square)) (now (a .table)) (drop (a .place) s) z)
 
 add-t18 : tie.Need-add-t18
 add-t18 c = search needs
@@ -51,7 +50,7 @@ returns-2 : tie.Need-returns-2
 returns-2 c =
     let a = c .before .before .before .before .before .before .before .before .before .before .args in
     let s = now (a .text) in
-    (tt, λ labels keyed. guards-many (a .n) labels (now (a .square)) (now (a .table)) (drop (a .place) s) (c .before .before .m .given .0 .0) (drop (c .before .before .m .given .0 .1 .0) s) (at-m (c .before .before) .0) (c .if1 .taken))
+    (tt, guards-many (a .n) (now (a .labels)) (now (a .square)) (now (a .table)) (drop (a .place) s) (c .before .before .m .given .0 .0) (drop (c .before .before .m .given .0 .1 .0) s) (at-m (c .before .before) .0) (c .if1 .taken))
 
 guards-requires : tie.Need-guards-requires
 guards-requires c κs = omega (arith, at-m (c .before .before .before), c .before .before .before .before .before .before .before .before .before .before .before .pre)
@@ -77,12 +76,9 @@ same-length c = search needs
 returns-3 : tie.Need-returns-3
 returns-3 c =
     let a = c .before .before .before .before .before .before .before .before .before .before .before .before .before .before .before .before .before .args in
-    let s = now (a .text) in (
-      tt,
-      λ labels keyed.
-          let z : SectionIs s (c .before .before .before .before .before .guards .last .1 .1 .1 .1 .1 .0) (lines (guardStep (a .n) labels) (a .n + 3) (c .before .before .before .before .before .before .before .before .before .m .given .0 .0) 0 (now (a .square)) (drop (c .before .before .before .before .before .before .before .before .before .m .given .0 .1 .0) s)) (Halt (c .before .x .given .0 .0) (c .before .x .given .0 .1 .0)) = (rw (c .before .x .given .1) at (c .before .before .before .before .before .guards .ensures)) .1 labels keyed in
-          guards-halt (a .n) labels (now (a .square)) (now (a .table)) (drop (a .place) s) (c .before .before .before .before .before .before .before .before .before .m .given .0 .0) (drop (c .before .before .before .before .before .before .before .before .before .m .given .0 .1 .0) s) (at-m (c .before .before .before .before .before .before .before .before .before) .0) (c .before .before .before .before .before .before .before .if1 .left) (c .before .x .given .0 .0) (c .before .x .given .0 .1 .0) z,
-    )
+    let s = now (a .text) in
+    let z : SectionIs s (c .before .before .before .before .before .guards .last .1 .1 .1 .1 .1 .0) (lines (guardStep (a .n) (now (a .labels))) (a .n + 3) (c .before .before .before .before .before .before .before .before .before .m .given .0 .0) 0 (now (a .square)) (drop (c .before .before .before .before .before .before .before .before .before .m .given .0 .1 .0) s)) (Halt (c .before .x .given .0 .0) (c .before .x .given .0 .1 .0)) = (rw (c .before .x .given .1) at (c .before .before .before .before .before .guards .ensures)) .1 in
+    (tt, guards-halt (a .n) (now (a .labels)) (now (a .square)) (now (a .table)) (drop (a .place) s) (c .before .before .before .before .before .before .before .before .before .m .given .0 .0) (drop (c .before .before .before .before .before .before .before .before .before .m .given .0 .1 .0) s) (at-m (c .before .before .before .before .before .before .before .before .before) .0) (c .before .before .before .before .before .before .before .if1 .left) (c .before .x .given .0 .0) (c .before .x .given .0 .1 .0) z)
 
 same-length-2 : tie.Need-same-length-2
 same-length-2 c = search needs
@@ -97,15 +93,12 @@ returns-4 c =
     let square = c .before .before .before .before .before .before .before .before .before .guards .last .1 .1 .1 .1 .1 .0 in
     let table = c .before .before .starts-part .last .1 .1 .1 .1 .1 .0 in
     let m = c .before .before .before .before .before .before .before .before .before .before .before .before .before .m .given .0 .0 in
-    let l = drop (c .before .before .before .before .before .f .given .0 .0) s in (
-      c .before .before .starts-part .ensures .0,
-      λ labels keyed.
-          let z : SectionIs s (c .before .before .before .before .before .before .before .before .before .guards .last .1 .1 .1 .1 .1 .0) (lines (guardStep (a .n) labels) (a .n + 3) (c .before .before .before .before .before .before .before .before .before .before .before .before .before .m .given .0 .0) 0 (now (a .square)) (drop (c .before .before .before .before .before .before .before .before .before .before .before .before .before .m .given .0 .1 .0) s)) (Over (c .before .before .before .before .before .f .given .0 .0)) = (rw (c .before .before .before .before .before .f .given .1) at (c .before .before .before .before .before .before .before .before .before .guards .ensures)) .1 labels keyed in
-          let rest = startsPart (a .n) (a .n + m + 3) labels (now (a .table)) l in
-          moved s {T = List ℕ × List ℕ} (square, table) (after rest (λ (t l₃ : List ℕ). done (square, t) l₃)) (guardsPart (a .n) labels (now (a .square)) (now (a .table)) (drop (a .place) s)) (c .before .before .starts-part .result)
-          (guards-rest (a .n) labels (now (a .square)) (now (a .table)) (drop (a .place) s) (c .before .before .before .before .before .before .before .before .before .before .before .before .before .m .given .0 .0) (drop (c .before .before .before .before .before .before .before .before .before .before .before .before .before .m .given .0 .1 .0) s) (at-m (c .before .before .before .before .before .before .before .before .before .before .before .before .before) .0) (c .before .before .before .before .before .before .before .before .before .before .before .if1 .left) square l z)
-          (both s square table rest (c .before .before .starts-part .result) (c .before .before .starts-part .ensures .1 labels keyed)),
-    )
+    let l = drop (c .before .before .before .before .before .f .given .0 .0) s in
+    let z : SectionIs s (c .before .before .before .before .before .before .before .before .before .guards .last .1 .1 .1 .1 .1 .0) (lines (guardStep (a .n) (now (a .labels))) (a .n + 3) (c .before .before .before .before .before .before .before .before .before .before .before .before .before .m .given .0 .0) 0 (now (a .square)) (drop (c .before .before .before .before .before .before .before .before .before .before .before .before .before .m .given .0 .1 .0) s)) (Over (c .before .before .before .before .before .f .given .0 .0)) = (rw (c .before .before .before .before .before .f .given .1) at (c .before .before .before .before .before .before .before .before .before .guards .ensures)) .1 in
+    let rest = startsPart (a .n) (a .n + m + 3) (now (a .labels)) (now (a .table)) l in
+    (c .before .before .starts-part .ensures .0, moved s {T = List ℕ × List ℕ} (square, table) (after rest (λ (t l₃ : List ℕ). done (square, t) l₃)) (guardsPart (a .n) (now (a .labels)) (now (a .square)) (now (a .table)) (drop (a .place) s)) (c .before .before .starts-part .result)
+    (guards-rest (a .n) (now (a .labels)) (now (a .square)) (now (a .table)) (drop (a .place) s) (c .before .before .before .before .before .before .before .before .before .before .before .before .before .m .given .0 .0) (drop (c .before .before .before .before .before .before .before .before .before .before .before .before .before .m .given .0 .1 .0) s) (at-m (c .before .before .before .before .before .before .before .before .before .before .before .before .before) .0) (c .before .before .before .before .before .before .before .before .before .before .before .if1 .left) square l z)
+    (both s square table rest (c .before .before .starts-part .result) (c .before .before .starts-part .ensures .1)))
 
 pub guards-part-spec : {M : Type 1} → statement M
 guards-part-spec =

@@ -4,7 +4,6 @@ use native.Mathlib.Omega.{arith}
 use borrow.Author.Needs.{needs}
 use lib.ListN.{drop}
 use denote.Ref.{now}
-use Rattle.rules.specs.Tables.{at}
 use Rattle.rules.specs.Text.{startsWord}
 use Rattle.rules.specs.Sheet.{lines, startStep}
 use Rattle.text.specs.Says.{CountIs}
@@ -22,7 +21,7 @@ returns : tie.Need-returns
 returns c =
     let a = c .before .before .before .before .args in
     let s = now (a .text) in
-    (c .before .before .before .before .pre .0, λ labels keyed. starts-none (a .n) (a .line) labels (now (a .table)) s (a .place) (c .if1 .taken))
+    (c .before .before .before .before .pre .0, starts-none (a .n) (a .line) (now (a .labels)) (now (a .table)) s (a .place) (c .if1 .taken))
 
 slice-aggregate-count-line : tie.Need-slice-aggregate-count-line
 slice-aggregate-count-line c = search needs
@@ -41,13 +40,13 @@ returns-2 c =
     let a = c .before .before .before .before .before .before .before .before .args in
     let s = now (a .text) in
     let z : CountIs s (a .place) startsWord Unread = rw (c .enum-told .given .1) at (c .before .before .count-line .ensures) in
-    (tt, λ labels keyed. starts-some (a .n) (a .line) labels (now (a .table)) s (a .place) (c .before .before .before .before .if1 .left) ∙ part-ill startsWord (startStep labels) (a .n) (a .line) (now (a .table)) s (a .place) z)
+    (tt, starts-some (a .n) (a .line) (now (a .labels)) (now (a .table)) s (a .place) (c .before .before .before .before .if1 .left) ∙ part-ill startsWord (startStep (now (a .labels))) (a .n) (a .line) (now (a .table)) s (a .place) z)
 
 returns-3 : tie.Need-returns-3
 returns-3 c =
     let a = c .before .before .before .before .before .before .before .before .before .before .args in
     let s = now (a .text) in
-    (tt, λ labels keyed. starts-some (a .n) (a .line) labels (now (a .table)) s (a .place) (c .before .before .before .before .before .before .if1 .left) ∙ part-count startsWord (startStep labels) (a .n) (a .line) (now (a .table)) s (a .place) (c .before .before .m .given .0 .0) (drop (c .before .before .m .given .0 .1 .0) s) (at-m (c .before .before) .0) (c .if2 .taken))
+    (tt, starts-some (a .n) (a .line) (now (a .labels)) (now (a .table)) s (a .place) (c .before .before .before .before .before .before .if1 .left) ∙ part-count startsWord (startStep (now (a .labels))) (a .n) (a .line) (now (a .table)) s (a .place) (c .before .before .m .given .0 .0) (drop (c .before .before .m .given .0 .1 .0) s) (at-m (c .before .before) .0) (c .if2 .taken))
 
 add-starts : tie.Need-add-starts
 add-starts c = search needs
@@ -73,12 +72,9 @@ same-length c = search needs
 returns-4 : tie.Need-returns-4
 returns-4 c =
     let a = c .before .before .before .before .before .before .before .before .before .before .before .before .before .before .before .before .before .before .args in
-    let s = now (a .text) in (
-      tt,
-      λ labels keyed.
-          let z : SectionIs s (c .before .before .before .before .before .before .starts .last .1 .1 .1 .1 .1 .0) (lines (startStep labels) (a .line + 1) (a .n) 0 (now (a .table)) (drop (c .before .before .before .before .before .before .before .before .before .before .m .given .0 .1 .0) s)) (Over (c .before .before .f .given .0 .0)) = (rw (c .before .before .f .given .1) at (c .before .before .before .before .before .before .starts .ensures)) .1 labels keyed in
-          starts-some (a .n) (a .line) labels (now (a .table)) s (a .place) (c .before .before .before .before .before .before .before .before .before .before .before .before .before .before .if1 .left) ∙ part-left startsWord (startStep labels) (a .n) (a .line) (now (a .table)) s (a .place) (c .before .before .before .before .before .before .before .before .before .before .m .given .0 .0) (drop (c .before .before .before .before .before .before .before .before .before .before .m .given .0 .1 .0) s) (at-m (c .before .before .before .before .before .before .before .before .before .before) .0) (c .before .before .before .before .before .before .before .before .if2 .left) (c .before .before .before .before .before .before .starts .last .1 .1 .1 .1 .1 .0) (c .before .before .f .given .0 .0) z (c .if3 .taken),
-    )
+    let s = now (a .text) in
+    let z : SectionIs s (c .before .before .before .before .before .before .starts .last .1 .1 .1 .1 .1 .0) (lines (startStep (now (a .labels))) (a .line + 1) (a .n) 0 (now (a .table)) (drop (c .before .before .before .before .before .before .before .before .before .before .m .given .0 .1 .0) s)) (Over (c .before .before .f .given .0 .0)) = (rw (c .before .before .f .given .1) at (c .before .before .before .before .before .before .starts .ensures)) .1 in
+    (tt, starts-some (a .n) (a .line) (now (a .labels)) (now (a .table)) s (a .place) (c .before .before .before .before .before .before .before .before .before .before .before .before .before .before .if1 .left) ∙ part-left startsWord (startStep (now (a .labels))) (a .n) (a .line) (now (a .table)) s (a .place) (c .before .before .before .before .before .before .before .before .before .before .m .given .0 .0) (drop (c .before .before .before .before .before .before .before .before .before .before .m .given .0 .1 .0) s) (at-m (c .before .before .before .before .before .before .before .before .before .before) .0) (c .before .before .before .before .before .before .before .before .if2 .left) (c .before .before .before .before .before .before .starts .last .1 .1 .1 .1 .1 .0) (c .before .before .f .given .0 .0) z (c .if3 .taken))
 
 same-length-2 : tie.Need-same-length-2
 same-length-2 c = search needs
@@ -86,12 +82,9 @@ same-length-2 c = search needs
 returns-5 : tie.Need-returns-5
 returns-5 c =
     let a = c .before .before .before .before .before .before .before .before .before .before .before .before .before .before .before .before .before .args in
-    let s = now (a .text) in (
-      tt,
-      λ labels keyed.
-          let z : SectionIs s (c .before .before .before .before .before .starts .last .1 .1 .1 .1 .1 .0) (lines (startStep labels) (a .line + 1) (a .n) 0 (now (a .table)) (drop (c .before .before .before .before .before .before .before .before .before .m .given .0 .1 .0) s)) (Halt (c .before .x .given .0 .0) (c .before .x .given .0 .1 .0)) = (rw (c .before .x .given .1) at (c .before .before .before .before .before .starts .ensures)) .1 labels keyed in
-          starts-some (a .n) (a .line) labels (now (a .table)) s (a .place) (c .before .before .before .before .before .before .before .before .before .before .before .before .before .if1 .left) ∙ part-halt startsWord (startStep labels) (a .n) (a .line) (now (a .table)) s (a .place) (c .before .before .before .before .before .before .before .before .before .m .given .0 .0) (drop (c .before .before .before .before .before .before .before .before .before .m .given .0 .1 .0) s) (at-m (c .before .before .before .before .before .before .before .before .before) .0) (c .before .before .before .before .before .before .before .if2 .left) (c .before .x .given .0 .0) (c .before .x .given .0 .1 .0) z,
-    )
+    let s = now (a .text) in
+    let z : SectionIs s (c .before .before .before .before .before .starts .last .1 .1 .1 .1 .1 .0) (lines (startStep (now (a .labels))) (a .line + 1) (a .n) 0 (now (a .table)) (drop (c .before .before .before .before .before .before .before .before .before .m .given .0 .1 .0) s)) (Halt (c .before .x .given .0 .0) (c .before .x .given .0 .1 .0)) = (rw (c .before .x .given .1) at (c .before .before .before .before .before .starts .ensures)) .1 in
+    (tt, starts-some (a .n) (a .line) (now (a .labels)) (now (a .table)) s (a .place) (c .before .before .before .before .before .before .before .before .before .before .before .before .before .if1 .left) ∙ part-halt startsWord (startStep (now (a .labels))) (a .n) (a .line) (now (a .table)) s (a .place) (c .before .before .before .before .before .before .before .before .before .m .given .0 .0) (drop (c .before .before .before .before .before .before .before .before .before .m .given .0 .1 .0) s) (at-m (c .before .before .before .before .before .before .before .before .before) .0) (c .before .before .before .before .before .before .before .if2 .left) (c .before .x .given .0 .0) (c .before .x .given .0 .1 .0) z)
 
 same-length-3 : tie.Need-same-length-3
 same-length-3 c = search needs
@@ -100,12 +93,9 @@ returns-6 : tie.Need-returns-6
 returns-6 c =
     let a = c .before .before .before .before .before .before .before .before .before .before .before .before .before .before .before .before .before .before .args in
     let s = now (a .text) in
-    let y : PartWithin s (Over (c .before .before .f .given .0 .0)) = (rw (c .before .before .f .given .1) at (c .before .before .before .before .before .before .starts .ensures)) .0 in (
-      y,
-      λ labels keyed.
-          let z : SectionIs s (c .before .before .before .before .before .before .starts .last .1 .1 .1 .1 .1 .0) (lines (startStep labels) (a .line + 1) (a .n) 0 (now (a .table)) (drop (c .before .before .before .before .before .before .before .before .before .before .m .given .0 .1 .0) s)) (Over (c .before .before .f .given .0 .0)) = (rw (c .before .before .f .given .1) at (c .before .before .before .before .before .before .starts .ensures)) .1 labels keyed in
-          starts-some (a .n) (a .line) labels (now (a .table)) s (a .place) (c .before .before .before .before .before .before .before .before .before .before .before .before .before .before .if1 .left) ∙ part-done startsWord (startStep labels) (a .n) (a .line) (now (a .table)) s (a .place) (c .before .before .before .before .before .before .before .before .before .before .m .given .0 .0) (drop (c .before .before .before .before .before .before .before .before .before .before .m .given .0 .1 .0) s) (at-m (c .before .before .before .before .before .before .before .before .before .before) .0) (c .before .before .before .before .before .before .before .before .if2 .left) (c .before .before .before .before .before .before .starts .last .1 .1 .1 .1 .1 .0) (c .before .before .f .given .0 .0) z (c .if3 .left),
-    )
+    let y : PartWithin s (Over (c .before .before .f .given .0 .0)) = (rw (c .before .before .f .given .1) at (c .before .before .before .before .before .before .starts .ensures)) .0 in
+    let z : SectionIs s (c .before .before .before .before .before .before .starts .last .1 .1 .1 .1 .1 .0) (lines (startStep (now (a .labels))) (a .line + 1) (a .n) 0 (now (a .table)) (drop (c .before .before .before .before .before .before .before .before .before .before .m .given .0 .1 .0) s)) (Over (c .before .before .f .given .0 .0)) = (rw (c .before .before .f .given .1) at (c .before .before .before .before .before .before .starts .ensures)) .1 in
+    (y, starts-some (a .n) (a .line) (now (a .labels)) (now (a .table)) s (a .place) (c .before .before .before .before .before .before .before .before .before .before .before .before .before .before .if1 .left) ∙ part-done startsWord (startStep (now (a .labels))) (a .n) (a .line) (now (a .table)) s (a .place) (c .before .before .before .before .before .before .before .before .before .before .m .given .0 .0) (drop (c .before .before .before .before .before .before .before .before .before .before .m .given .0 .1 .0) s) (at-m (c .before .before .before .before .before .before .before .before .before .before) .0) (c .before .before .before .before .before .before .before .before .if2 .left) (c .before .before .before .before .before .before .starts .last .1 .1 .1 .1 .1 .0) (c .before .before .f .given .0 .0) z (c .if3 .left))
 
 pub starts-part-spec : {M : Type 1} → statement M
 starts-part-spec =
