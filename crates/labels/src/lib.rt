@@ -2,13 +2,15 @@
 // keys that labels are compared by.
 ghost use mathlib.Core.Path.{_≡_};
 ghost use mathlib.Core.Bool.{false};
-ghost use Prim.Native.Nat.{_+_, _*_, _≤_};
+ghost use Prim.Native.Nat.{_+_, _*_, _≤_, _<_, min};
 ghost use lib.ListN.{length};
-ghost use Rattle.rules.specs.Tables.{at, labelByte};
+ghost use lib.Dec.{eqb};
+ghost use Rattle.rules.specs.Tables.{at};
+ghost use Rattle.rules.specs.Scan.{first};
 ghost use Rattle.rules.specs.Sheet.{isRow, find, putRow};
 ghost use Rattle.rules.specs.Writing.{labelOf, badLabel, labelTwice};
 ghost use Rattle.text.specs.Says.{part};
-ghost use Rattle.labels.specs.Keys.{Key};
+ghost use Rattle.labels.specs.Keys.{keyOf, rowKey};
 
 // Byte j of the label between two places, and 0 past its end.
 fn label_byte(text: &[u8], place: usize, end: usize, j: usize) -> u8
@@ -18,11 +20,18 @@ fn label_byte(text: &[u8], place: usize, end: usize, j: usize) -> u8
     if j < end - place { text[place + j] } else { 0 }
 }
 
+// The lower of two.
+fn lower(a: usize, b: usize) -> usize
+    ensures { λ r. ⌜ r ≡ min a b ⌝ }
+{
+    if a < b { a } else { b }
+}
+
 // The eight bytes of the label between two places as one number, the first of them lowest: one test then compares
 // all of them.
 fn label_key(text: &[u8], place: usize, end: usize) -> usize
     requires { ⌜ (place ≤ end) × (end ≤ length (now text)) ⌝ }
-    ensures { λ r. ⌜ Key (at (part (now (text .entry)) place end)) r ⌝ }
+    ensures { λ r. ⌜ r ≡ keyOf (at (part (now (text .entry)) place end)) ⌝ }
 {
     let mut key: usize = 0;
     let mut j = rules::LABEL;
@@ -37,7 +46,7 @@ fn label_key(text: &[u8], place: usize, end: usize) -> usize
 // The key of path k's label: a row of the table, read at one go.
 fn row_key(labels: &[u8], k: usize) -> usize
     requires { ⌜ 8 * k + 8 ≤ length (now labels) ⌝ }
-    ensures { λ r. ⌜ Key (labelByte (now (labels .entry)) k) r ⌝ }
+    ensures { λ r. ⌜ r ≡ rowKey (now (labels .entry)) k ⌝ }
 {
     let row = rules::LABEL * k;
     label_key(labels, row, row + rules::LABEL)
@@ -51,20 +60,46 @@ pub fn is_row(labels: &[u8], k: usize, text: &[u8], place: usize, end: usize) ->
     row_key(labels, k) == label_key(text, place, end)
 }
 
-// The path among the first n whose label is the one between two places, or n. Its key is made once.
+// So many rows are compared with a key before it is asked again whether rows are left.
+const AT_ONCE: usize = 4;
+
+// The first of the four rows from path k's on that has a key, or 4.
+fn first_of_four(labels: &[u8], k: usize, key: usize) -> usize
+    requires { ⌜ 8 * k + 32 ≤ length (now labels) ⌝ }
+    ensures { λ r. ⌜ r ≡ first (λ i. eqb (rowKey (now (labels .entry)) (k + i)) key) 4 ⌝ }
+{
+    let mut i = 0;
+    while i < AT_ONCE {
+        if row_key(labels, k + i) == key {
+            return i;
+        }
+        i += 1;
+    }
+    i
+}
+
+// The first of n rows that has a key, or n. The last four rows may go past the n-th: those are no path's.
+fn first_row(labels: &[u8], n: usize, key: usize) -> usize
+    requires { ⌜ (n ≤ 128) × (length (now labels) ≡ 1024) ⌝ }
+    ensures { λ r. ⌜ r ≡ first (λ k. eqb (rowKey (now (labels .entry)) k) key) n ⌝ }
+{
+    let mut b = 0;
+    while AT_ONCE * b < n {
+        let i = first_of_four(labels, AT_ONCE * b, key);
+        if i < AT_ONCE {
+            return lower(AT_ONCE * b + i, n);
+        }
+        b += 1;
+    }
+    n
+}
+
+// The path among the first n whose label is the one between two places, or n.
 pub fn find(labels: &[u8], n: usize, text: &[u8], place: usize, end: usize) -> usize
-    requires { ⌜ (8 * n ≤ length (now labels)) × (place ≤ end) × (end ≤ length (now text)) ⌝ }
+    requires { ⌜ (n ≤ 128) × (length (now labels) ≡ 1024) × (place ≤ end) × (end ≤ length (now text)) ⌝ }
     ensures { λ r. ⌜ r ≡ find (now (labels .entry)) n (part (now (text .entry)) place end) ⌝ }
 {
-    let key = label_key(text, place, end);
-    let mut k = 0;
-    while k < n {
-        if row_key(labels, k) == key {
-            return k;
-        }
-        k += 1;
-    }
-    k
+    first_row(labels, n, label_key(text, place, end))
 }
 
 // Puts the label between two places down as path k's.
@@ -115,9 +150,8 @@ pub fn bad_label(labels: &[u8], k: usize) -> bool
 
 // 12, in the writer: path k's label, which is not refused 11, is an earlier path's.
 pub fn label_twice(labels: &[u8], k: usize) -> bool
-    requires { ⌜ (8 * k + 8 ≤ length (now labels)) × (badLabel (now labels) k ≡ false) ⌝ }
+    requires { ⌜ (k < 128) × (length (now labels) ≡ 1024) × (badLabel (now labels) k ≡ false) ⌝ }
     ensures { λ r. ⌜ r ≡ labelTwice (now (labels .entry)) k ⌝ }
 {
-    let row = rules::LABEL * k;
-    find(labels, k, labels, row, row + rules::LABEL) < k
+    first_row(labels, k, row_key(labels, k)) < k
 }

@@ -41,7 +41,7 @@ fn out_of_range(v: usize, most: usize) -> bool
 
 // Path k's line: 11, 12 label again, 3 width outside 1 to 64 (RULES 14).
 pub fn path_step(text: &[u8], place: usize, k: usize, labels: &mut [u8], widths: &mut [u16]) -> Step
-    requires { ⌜ (place ≤ length (now text)) × (8 * k + 8 ≤ length (now labels))
+    requires { ⌜ (place ≤ length (now text)) × (k < 128) × (length (now labels) ≡ 1024)
         × (k < length (now widths)) ⌝ }
     ensures { λ r. ⌜ StepWithin (now (text .entry)) r
         × StepIs (now (text .entry)) (now (labels .exit), now (widths .exit))
@@ -83,7 +83,7 @@ pub fn guard_line(text: &[u8], place: usize) -> GuardLine
 // A guard's line, over the labels of n paths: 11, 13 no path's label or one label twice, 14 the pair again, 4
 // guard over 32.
 pub fn guard_step(text: &[u8], place: usize, n: usize, labels: &[u8], guards: &mut [u8]) -> Step
-    requires { ⌜ (place ≤ length (now text)) × (n ≤ 128) × (8 * n ≤ length (now labels))
+    requires { ⌜ (place ≤ length (now text)) × (n ≤ 128) × (length (now labels) ≡ 1024)
         × (length (now guards) ≡ 16384) ⌝ }
     ensures { λ r. ⌜ StepWithin (now (text .entry)) r
         × StepIs (now (text .entry)) (now (guards .exit))

@@ -15,8 +15,8 @@ pub enum Part {
 
 // The lines of n paths.
 pub fn paths(text: &[u8], place: usize, n: usize, labels: &mut [u8], widths: &mut [u16]) -> Part
-    requires { ⌜ (place ≤ length (now text)) × (8 * n ≤ length (now labels)) × (n ≤ length (now widths))
-        × (n ≤ 128) ⌝ }
+    requires { ⌜ (place ≤ length (now text)) × (n ≤ 128) × (length (now labels) ≡ 1024)
+        × (n ≤ length (now widths)) ⌝ }
     ensures { λ r. ⌜ PartWithin (now (text .entry)) r
         × SectionIs (now (text .entry)) (now (labels .exit), now (widths .exit))
         (lines pathStep 2 n 0 (now (labels .entry), now (widths .entry)) (drop place (now (text .entry))))
@@ -47,7 +47,7 @@ pub fn guards(
     labels: &[u8],
     guards: &mut [u8],
 ) -> Part
-    requires { ⌜ (place ≤ length (now text)) × (n ≤ 128) × (8 * n ≤ length (now labels))
+    requires { ⌜ (place ≤ length (now text)) × (n ≤ 128) × (length (now labels) ≡ 1024)
         × (length (now guards) ≡ 16384) × (m ≤ 2000) ⌝ }
     ensures { λ r. ⌜ PartWithin (now (text .entry)) r
         × SectionIs (now (text .entry)) (now (guards .exit))
@@ -79,7 +79,7 @@ pub fn starts(
     labels: &[u8],
     starts: &mut [u16],
 ) -> Part
-    requires { ⌜ (place ≤ length (now text)) × (n ≤ 128) × (8 * n ≤ length (now labels))
+    requires { ⌜ (place ≤ length (now text)) × (n ≤ 128) × (length (now labels) ≡ 1024)
         × (n ≤ length (now starts)) × (line ≤ 10000) ⌝ }
     ensures { λ r. ⌜ PartWithin (now (text .entry)) r
         × SectionIs (now (text .entry)) (now (starts .exit))

@@ -25,7 +25,7 @@ fn starts_part(
     labels: &[u8],
     table: &mut [u16],
 ) -> Part
-    requires { ⌜ (place ≤ length (now text)) × (n ≤ 128) × (8 * n ≤ length (now labels))
+    requires { ⌜ (place ≤ length (now text)) × (n ≤ 128) × (length (now labels) ≡ 1024)
         × (n ≤ length (now table)) × (line ≤ 9000) ⌝ }
     ensures { λ r. ⌜ PartWithin (now (text .entry)) r
         × SectionIs (now (text .entry)) (now (table .exit))
@@ -60,7 +60,7 @@ fn guards_part(
     square: &mut [u8],
     table: &mut [u16],
 ) -> Part
-    requires { ⌜ (place ≤ length (now text)) × (n ≤ 128) × (8 * n ≤ length (now labels))
+    requires { ⌜ (place ≤ length (now text)) × (n ≤ 128) × (length (now labels) ≡ 1024)
         × (length (now square) ≡ 16384) × (n ≤ length (now table)) ⌝ }
     ensures { λ r. ⌜ PartWithin (now (text .entry)) r
         × SectionIs (now (text .entry)) (now (square .exit), now (table .exit))

@@ -1,8 +1,11 @@
 use mathlib.Core.Path.{sym}
+use Prim.Native.Nat.{_+_, _*_}
+use native.Mathlib.Omega.{arith}
 use borrow.Author.Needs.{needs}
 use denote.Ref.{now}
 use Rattle.labels.specs.Keys.{row-key}
 use Rattle.text.specs.Says.{part}
+use Rattle.labels.proofs.Rows.{part-bytes}
 use Rattle.labels.proofs.is_row.Statement.{statement}
 use Rattle.labels.proofs.is_row.Tie as tie
 
@@ -15,7 +18,8 @@ label-key-requires c κs = search needs
 returns : tie.Need-returns
 returns c =
     let a = c .before .before .before .before .args in
-    sym (row-key (now (a .labels)) (part (now (a .text)) (a .place) (a .end)) (a .k) (c .before .row-key .result) (c .label-key .result) (c .before .row-key .ensures) (c .label-key .ensures))
+    let w = part (now (a .text)) (a .place) (a .end) in
+    rw (c .before .row-key .ensures, c .label-key .ensures) (sym (row-key (now (a .labels)) w (a .k) (λ j l. omega (arith, c .before .before .before .shared-slice-known .given (8 * a .k + j))) (part-bytes (now (a .text)) (a .place) (a .end) (λ j. omega (arith, c .before .before .shared-slice-known2 .given j)))))
 
 pub is-row-spec : {M : Type 1} → statement M
 is-row-spec = tie.close (tie.spec row-key-requires label-key-requires returns)

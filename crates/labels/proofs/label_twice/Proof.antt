@@ -1,23 +1,22 @@
+use Prim.Native.Nat.{ℕ, _+_, _*_}
+use mathlib.Core.Path.{sym, ap, _∙_}
 use native.Mathlib.Omega.{arith}
-use borrow.Author.Needs.{needs}
+use lib.Dec.{ltb}
 use denote.Ref.{now}
-use Rattle.labels.proofs.Rows.{twice-found}
+use Rattle.labels.specs.Keys.{twice-key}
 use Rattle.labels.proofs.label_twice.Statement.{statement}
 use Rattle.labels.proofs.label_twice.Tie as tie
 
-mul-row : tie.Need-mul-row
-mul-row c = search needs
+row-key-requires : tie.Need-row-key-requires
+row-key-requires c κs = omega arith
 
-add-find : tie.Need-add-find
-add-find c = search needs
-
-find-requires : tie.Need-find-requires
-find-requires c κs = omega arith
+first-row-requires : tie.Need-first-row-requires
+first-row-requires c κs = omega arith
 
 returns : tie.Need-returns
 returns c =
-    let s = c .before .before in
-    twice-found (now (s .args .labels)) (s .args .k) (c .find .result) (s .pre .1) (c .find .ensures)
+    let s = c .before .before .before in
+    rw (c .first-row .ensures, c .before .row-key .ensures) (sym (twice-key (now (s .args .labels)) (s .args .k) (λ k j l. omega (arith, c .before .before .shared-slice-known .given (8 * k + j))) (s .pre .2)))
 
 pub label-twice-spec : {M : Type 1} → statement M
-label-twice-spec = tie.close (tie.spec mul-row add-find find-requires returns)
+label-twice-spec = tie.close (tie.spec row-key-requires first-row-requires returns)

@@ -19,7 +19,7 @@ loop-holds : tie.Need-loop-holds Inv-loop μ-loop
 loop-holds c = (omega arith, below-none _)
 
 label-twice-requires : tie.Need-label-twice-requires Inv-loop μ-loop
-label-twice-requires c κs = (omega arith, c .before .before .before .pre .2 (c .before .loop .k) (omega arith))
+label-twice-requires c κs = (omega arith, omega arith, c .before .before .before .pre .2 (c .before .loop .k) (omega arith))
 
 refused-requires : tie.Need-refused-requires Inv-loop μ-loop
 refused-requires c κs = tt
