@@ -95,10 +95,12 @@ returns-4 c =
     let m = c .before .before .before .before .before .before .before .before .before .before .before .before .before .m .given .0 .0 in
     let l = drop (c .before .before .before .before .before .f .given .0 .0) s in
     let z : SectionIs s (c .before .before .before .before .before .before .before .before .before .guards .last .1 .1 .1 .1 .1 .0) (lines (guardStep (a .n) (now (a .labels))) (a .n + 3) (c .before .before .before .before .before .before .before .before .before .before .before .before .before .m .given .0 .0) 0 (now (a .square)) (drop (c .before .before .before .before .before .before .before .before .before .before .before .before .before .m .given .0 .1 .0) s)) (Over (c .before .before .before .before .before .f .given .0 .0)) = (rw (c .before .before .before .before .before .f .given .1) at (c .before .before .before .before .before .before .before .before .before .guards .ensures)) .1 in
-    let rest = startsPart (a .n) (a .n + m + 3) (now (a .labels)) (now (a .table)) l in
-    (c .before .before .starts-part .ensures .0, moved s {T = List ℕ × List ℕ} (square, table) (after rest (λ (t l₃ : List ℕ). done (square, t) l₃)) (guardsPart (a .n) (now (a .labels)) (now (a .square)) (now (a .table)) (drop (a .place) s)) (c .before .before .starts-part .result)
-    (guards-rest (a .n) (now (a .labels)) (now (a .square)) (now (a .table)) (drop (a .place) s) (c .before .before .before .before .before .before .before .before .before .before .before .before .before .m .given .0 .0) (drop (c .before .before .before .before .before .before .before .before .before .before .before .before .before .m .given .0 .1 .0) s) (at-m (c .before .before .before .before .before .before .before .before .before .before .before .before .before) .0) (c .before .before .before .before .before .before .before .before .before .before .before .if1 .left) square l z)
-    (both s square table rest (c .before .before .starts-part .result) (c .before .before .starts-part .ensures .1)))
+    let rest = startsPart (a .n) (a .n + m + 3) (now (a .labels)) (now (a .table)) l in (
+      c .before .before .starts-part .ensures .0,
+      moved s {T = List ℕ × List ℕ} (square, table) (after rest (λ (t l₃ : List ℕ). done (square, t) l₃)) (guardsPart (a .n) (now (a .labels)) (now (a .square)) (now (a .table)) (drop (a .place) s)) (c .before .before .starts-part .result)
+          (guards-rest (a .n) (now (a .labels)) (now (a .square)) (now (a .table)) (drop (a .place) s) (c .before .before .before .before .before .before .before .before .before .before .before .before .before .m .given .0 .0) (drop (c .before .before .before .before .before .before .before .before .before .before .before .before .before .m .given .0 .1 .0) s) (at-m (c .before .before .before .before .before .before .before .before .before .before .before .before .before) .0) (c .before .before .before .before .before .before .before .before .before .before .before .if1 .left) square l z)
+          (both s square table rest (c .before .before .starts-part .result) (c .before .before .starts-part .ensures .1)),
+    )
 
 pub guards-part-spec : {M : Type 1} → statement M
 guards-part-spec =
