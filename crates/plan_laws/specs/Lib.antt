@@ -26,4 +26,5 @@ pub mod Improve
 pub mod Runs
 pub mod Passes
 pub mod Sided
+pub mod Alike
 pub mod Spreading

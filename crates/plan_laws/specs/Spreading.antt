@@ -22,6 +22,7 @@ use Rattle.table_laws.specs.Scans.{First, none, some, first-is, found-none, fou
 use Rattle.table_laws.specs.Tables.{at-same, at-other, cleared-length, cleared-at}
 use Rattle.table_laws.specs.Orders.{placed-none, placed-at, placed-hit, placed-miss, count-placed}
 use Rattle.table_laws.specs.Marks.{placed-local}
+use Rattle.plan_laws.specs.Alike.{AllMarked}
 use Rattle.table_laws.specs.Updates.{Updated}
 use Rattle.plan_laws.specs.Arranged.{Chosen, choose-is, arranged-order, arranged-begins, arranged-chosen, choose-keys, choose-same}
 use Rattle.plan_laws.specs.Pack.{Packs, packed-length, packed-other, packed-packs}
@@ -373,3 +374,21 @@ module _ (n : ℕ) (lent : Lent) (few : n ≤ 128) where
         go : (k : ℕ) → Dec (k < n) → at table k ≡ mark n k
         go k (yes h) = p .tells k h ∙ ap (λ (j : ℕ). told net (mark j) o j k) all ∙ told-all k h
         go k (no h) = p .rest k (omega arith) ∙ sym (packed-other (opposite net) (opposite-local net) o (cleared 128 0) n k (λ i g q. omega (arith, ord .inside i g)))
+
+    -- then each path is marked, and no cell past them
+    pub spreading-all : n ≤ m → AllMarked n table
+    spreading-all l = record {
+      some = λ k h. go k h (telling k h);
+      none = λ k h g. p .rest k h ∙ cleared-at 128 0 k g;
+    }
+      where
+        all : m ≡ n
+        all = omega (arith, p .here)
+
+        set-down : (k : ℕ) → k < n → placed o m k ≡ true
+        set-down k h = rw all (count-full (placed o n) n (count-placed o n n ord) k h)
+
+        go : (k : ℕ) → k < n → Told net (mark m) o m k (at table k) → 1 ≤ at table k
+        go k h (marked e f s) = s .0
+        go k h (met e t f s) = absurd (true≢false (sym (set-down k h) ∙ e))
+        go k h (unmet e t f) = absurd (true≢false (sym (set-down k h) ∙ e))

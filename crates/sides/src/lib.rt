@@ -8,9 +8,10 @@ ghost use Prim.Native.Nat.{ℕ, _+_, _≤_, _<_};
 ghost use lib.Dec.{ltb, eqb};
 ghost use lib.ListN.{length, set};
 ghost use Rattle.rules.specs.Tables.{at, cleared, Lent};
-ghost use Rattle.rules.specs.Scan.{first, found, foundPair};
+ghost use Rattle.rules.specs.Scan.{first, found};
 ghost use Rattle.rules.specs.Plan.{netOf};
-ghost use Rattle.rules.specs.Sides.{marks, sameMark, hasSides, twoSided, lowSide};
+ghost use Rattle.rules.specs.Sides.{marks, hasSides, twoSided, lowSide};
+ghost use Rattle.plan_laws.specs.Alike.{Mirrored, AllMarked, alike};
 ghost use Rattle.plan_laws.specs.Spreading.{between, nextPath, askedMark, meeting, Met};
 ghost use Rattle.plan_laws.specs.Passes.{Passing, sideOf, sidesOf};
 ghost use Rattle.sides.specs.Split.{SplitIs};
@@ -96,6 +97,7 @@ fn mark_sides(n: usize, guards: &[u8], mark: &mut [u8])
     requires { ⌜ (n ≤ 128) × ((length (now guards) ≡ 16384) × (now mark ≡ cleared 128 0)) ⌝ }
     ensures { λ _. ⌜ ((lent : Lent) → lent .guards ≡ now (guards .entry) → now (mark .exit)
         ≡ marks (netOf lent) n) ⌝ }
+    ensures { λ _. ⌜ AllMarked n (now (mark .exit)) ⌝ }
 {
     let mut m: usize = 0;
     while m < n {
@@ -117,16 +119,16 @@ fn is_alike(g: u8, a: u8, b: u8) -> bool
     a == b
 }
 
-// Whether some path past i is in conflict with it and has its mark.
-fn row_alike(n: usize, i: usize, guards: &[u8], mark: &[u8]) -> bool
-    requires { ⌜ (n ≤ 128) × ((i < n) × ((length (now guards) ≡ 16384) × (length (now mark) ≡ 128))) ⌝ }
-    ensures { λ r. ⌜ ((lent : Lent) → lent .guards ≡ now (guards .entry) → r
-        ≡ found (sameMark (netOf lent) (at (now (mark .entry))) i) n) ⌝ }
+// Whether some path is in conflict with path i and has its mark. The whole row is looked at, whatever n is: past the
+// paths there are no marks.
+fn row_alike(i: usize, guards: &[u8], mark: &[u8]) -> bool
+    requires { ⌜ (i < 128) × ((length (now guards) ≡ 16384) × (length (now mark) ≡ 128)) ⌝ }
+    ensures { λ r. ⌜ r ≡ found (alike (now (guards .entry)) (now (mark .entry)) i) 128 ⌝ }
 {
     let a = mark[i];
     let mut any = false;
-    let mut j: usize = i + 1;
-    while j < n {
+    let mut j: usize = 0;
+    while j < rules::PATHS {
         let g = guards[rules::PATHS * i + j];
         let b = mark[j];
         let x = is_alike(g, a, b);
@@ -139,12 +141,11 @@ fn row_alike(n: usize, i: usize, guards: &[u8], mark: &[u8]) -> bool
 // There are two sides exactly where no conflict joins two paths of one mark.
 fn are_sides(n: usize, guards: &[u8], mark: &[u8]) -> bool
     requires { ⌜ (n ≤ 128) × ((length (now guards) ≡ 16384) × (length (now mark) ≡ 128)) ⌝ }
-    ensures { λ r. ⌜ ((lent : Lent) → lent .guards ≡ now (guards .entry) → r
-        ≡ not (foundPair (sameMark (netOf lent) (at (now (mark .entry)))) n)) ⌝ }
+    ensures { λ r. ⌜ r ≡ not (found (λ i. found (alike (now (guards .entry)) (now (mark .entry)) i) 128) n) ⌝ }
 {
     let mut i: usize = 0;
     while i < n {
-        if row_alike(n, i, guards, mark) {
+        if row_alike(i, guards, mark) {
             return false;
         }
         i += 1;
@@ -154,7 +155,8 @@ fn are_sides(n: usize, guards: &[u8], mark: &[u8]) -> bool
 
 // Marks each path of a cleared table, and tells whether the marks are two sides.
 fn find_sides(n: usize, guards: &[u8], mark: &mut [u8]) -> bool
-    requires { ⌜ (n ≤ 128) × ((length (now guards) ≡ 16384) × (now mark ≡ cleared 128 0)) ⌝ }
+    requires { ⌜ (n ≤ 128) × ((length (now guards) ≡ 16384) × (Mirrored n (now guards)
+        × (now mark ≡ cleared 128 0))) ⌝ }
     ensures { λ r. ⌜ ((lent : Lent) → lent .guards ≡ now (guards .entry)
         → (now (mark .exit) ≡ marks (netOf lent) n) × (r ≡ hasSides (netOf lent) n)) ⌝ }
 {
@@ -221,7 +223,8 @@ pub struct Split {
 // The two-sided order, where there are two sides; else the order stays as it was. The marks are all that is held for
 // it: one byte a path, whatever the conflicts are.
 pub fn sided_order(n: usize, guards: &[u8], order: &mut [u8]) -> Split
-    requires { ⌜ (n ≤ 128) × ((length (now guards) ≡ 16384) × (n ≤ length (now order))) ⌝ }
+    requires { ⌜ (n ≤ 128) × ((length (now guards) ≡ 16384) × (Mirrored n (now guards)
+        × (n ≤ length (now order)))) ⌝ }
     ensures { λ r. ⌜ ((lent : Lent) → lent .guards ≡ now (guards .entry)
         → SplitIs (netOf lent) n (now (order .entry)) r (now (order .exit))) ⌝ }
 {

@@ -1,3 +1,4 @@
+use native.Mathlib.Omega.{arith}
 use mathlib.Core.Path.{refl}
 use Rattle.rules.specs.Tables.{cleared, lend}
 use Rattle.table_laws.specs.Tables.{cleared-length}
@@ -7,7 +8,9 @@ use Rattle.planning.proofs.chosen_order.Statement.{statement}
 use Rattle.planning.proofs.chosen_order.Tie as tie
 
 sided-order-requires : tie.Need-sided-order-requires
-sided-order-requires c κs = search needs
+sided-order-requires c κs =
+    let p = c .before .before .before .before .pre in
+    (p .0 .few, (p .0 .guardsSize, (record { own = p .0 .diagonal; other = p .0 .mirrored }, omega (arith, p .0 .few, p .1 .0))))
 
 same-length : tie.Need-same-length
 same-length c = search needs

@@ -30,7 +30,7 @@ sided-order-requires : tie.Need-sided-order-requires
 sided-order-requires c κs =
     let a = c .before .before .before .before .before .before .before .before .args in
     let p = two-clear (a .n) (lend (a .widths .now) (a .guards .now)) (a .order .now) _ (tested (c .before .before .before)) (c .before .if1 .left) in
-    (p .network .few, (p .network .guardsSize, omega (arith, p .network .few, p .orderSize)))
+    (p .network .few, (p .network .guardsSize, (record { own = p .network .diagonal; other = p .network .mirrored }, omega (arith, p .network .few, p .orderSize))))
 
 same-length : tie.Need-same-length
 same-length c = search needs

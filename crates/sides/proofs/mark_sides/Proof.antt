@@ -6,7 +6,7 @@ use mathlib.Core.List.{List, []}
 use lib.ListN.{length, length-set}
 use Rattle.rules.specs.Tables.{Lent, lend}
 use Rattle.table_laws.specs.Tables.{cleared-length}
-use Rattle.plan_laws.specs.Spreading.{Spreading, spreading-first, spreading-below, spreading-side, spreading-more, spreading-last}
+use Rattle.plan_laws.specs.Spreading.{Spreading, spreading-first, spreading-below, spreading-side, spreading-more, spreading-last, spreading-all}
 use Rattle.sides.proofs.mark_sides.Statement.{statement}
 use Rattle.sides.proofs.mark_sides.Tie as tie
 
@@ -76,9 +76,9 @@ same-length : tie.Need-same-length Inv-loop μ-loop
 same-length c = so-far (c .before) .full ∙ sym (ap length (c .before .before .before .before .pre .1 .1) ∙ cleared-length 128 0)
 
 returns : tie.Need-returns Inv-loop μ-loop
-returns c = λ lent q.
+returns c =
     let s = c .before .before .before .before in
-    spreading-last (s .args .n) lent (s .pre .0) _ _ (c .before .loop .inv lent q) (c .loop-test .left)
+    (λ lent q. spreading-last (s .args .n) lent (s .pre .0) _ _ (c .before .loop .inv lent q) (c .loop-test .left), spreading-all (s .args .n) _ (s .pre .0) _ _ (so-far (c .before)) (c .loop-test .left))
 
 pub mark-sides-spec : {M : Type 1} → statement M
 mark-sides-spec =

@@ -9,7 +9,7 @@ slice-aggregate-find-sides : tie.Need-slice-aggregate-find-sides
 slice-aggregate-find-sides c = search needs
 
 find-sides-requires : tie.Need-find-sides-requires
-find-sides-requires c κs = let p = c .before .before .before .pre in (p .0, (p .1 .0, blank 128 0))
+find-sides-requires c κs = let p = c .before .before .before .pre in (p .0, (p .1 .0, (p .1 .1 .0, blank 128 0)))
 
 slice-aggregate-order-sides : tie.Need-slice-aggregate-order-sides
 slice-aggregate-order-sides c = search needs
