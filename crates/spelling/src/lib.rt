@@ -86,8 +86,8 @@ pub fn put_word(text: &mut [u8], place: usize, w: &[u8]) -> usize
     p
 }
 
-// Puts a number, in as many digits as it has. The last digit is the first to be put: what is left of the number
-// is then a tenth of it, in the same place.
+// Puts a number, in as many digits as it has: the last one first, as what is then left to put is a tenth of
+// the number, in the same place.
 pub fn put_number(text: &mut [u8], place: usize, v: usize) -> usize
     requires { ⌜ (v < 100000) × (place + length (numeral v) ≤ length (now text)) ⌝ }
     ensures { λ r. ⌜ Wrote (now (text .entry)) place (numeral v) r (now (text .exit)) ⌝ }
