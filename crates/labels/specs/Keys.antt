@@ -27,7 +27,7 @@ keyOf f = pack 8 0 f
 abbrev pub rowKey : List ℕ → ℕ → ℕ
 rowKey labels k = keyOf (labelByte labels k)
 
--- eight of them
+-- the eight are bytes
 abbrev pub Bytes : (ℕ → ℕ) → Type 0
 Bytes f = (j : ℕ) → j < 8 → f j < 256
 

@@ -20,13 +20,6 @@ fn label_byte(text: &[u8], place: usize, end: usize, j: usize) -> u8
     if j < end - place { text[place + j] } else { 0 }
 }
 
-// The lower of two.
-fn lower(a: usize, b: usize) -> usize
-    ensures { λ r. ⌜ r ≡ min a b ⌝ }
-{
-    if a < b { a } else { b }
-}
-
 // The eight bytes of the label between two places as one number, the first of them lowest: one test then compares
 // all of them.
 fn label_key(text: &[u8], place: usize, end: usize) -> usize
@@ -43,7 +36,7 @@ fn label_key(text: &[u8], place: usize, end: usize) -> usize
     key
 }
 
-// The key of path k's label: a row of the table, read at one go.
+// The key of path k's label. A row has all of its eight bytes, so that it is read at one go.
 fn row_key(labels: &[u8], k: usize) -> usize
     requires { ⌜ 8 * k + 8 ≤ length (now labels) ⌝ }
     ensures { λ r. ⌜ r ≡ rowKey (now (labels .entry)) k ⌝ }
@@ -78,7 +71,14 @@ fn first_of_four(labels: &[u8], k: usize, key: usize) -> usize
     i
 }
 
-// The first of n rows that has a key, or n. The last four rows may go past the n-th: those are no path's.
+// The lower of two.
+fn lower(a: usize, b: usize) -> usize
+    ensures { λ r. ⌜ r ≡ min a b ⌝ }
+{
+    if a < b { a } else { b }
+}
+
+// The first of n rows that has a key, or n. The last four may reach past the n-th row: those further rows are no path's.
 fn first_row(labels: &[u8], n: usize, key: usize) -> usize
     requires { ⌜ (n ≤ 128) × (length (now labels) ≡ 1024) ⌝ }
     ensures { λ r. ⌜ r ≡ first (λ k. eqb (rowKey (now (labels .entry)) k) key) n ⌝ }

@@ -1,7 +1,7 @@
 // An inner crate, for the readers of sheets: the lines of a section one after the other, and the first of
 // them at fault.
 ghost use mathlib.Core.Path.{_≡_};
-ghost use Prim.Native.Nat.{_+_, _*_, _≤_};
+ghost use Prim.Native.Nat.{_+_, _≤_};
 ghost use lib.ListN.{length, drop};
 ghost use Rattle.rules.specs.Sheet.{lines, pathStep, guardStep, startStep};
 ghost use Rattle.sections.specs.Says.{SectionIs, PartWithin};

@@ -1,6 +1,6 @@
 // An inner crate, for `reader`: the sections of a sheet in their fixed order, each after its count.
 ghost use mathlib.Core.Path.{_≡_};
-ghost use Prim.Native.Nat.{_*_, _≤_};
+ghost use Prim.Native.Nat.{_≤_};
 ghost use lib.ListN.{length, drop};
 ghost use Rattle.rules.specs.Tables.{lend};
 ghost use Rattle.rules.specs.Sheet.{startsPart, guardsPart, sheetFrom};

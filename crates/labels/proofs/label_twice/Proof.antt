@@ -1,7 +1,6 @@
-use Prim.Native.Nat.{ℕ, _+_, _*_}
-use mathlib.Core.Path.{sym, ap, _∙_}
+use Prim.Native.Nat.{_+_, _*_}
+use mathlib.Core.Path.{sym}
 use native.Mathlib.Omega.{arith}
-use lib.Dec.{ltb}
 use denote.Ref.{now}
 use Rattle.labels.specs.Keys.{twice-key}
 use Rattle.labels.proofs.label_twice.Statement.{statement}
