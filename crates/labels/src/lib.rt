@@ -78,7 +78,8 @@ fn lower(a: usize, b: usize) -> usize
     if a < b { a } else { b }
 }
 
-// The first of n rows that has a key, or n. The last four may reach past the n-th row: those further rows are no path's.
+// The first of n rows that has a key, or n. The last four may reach past the n-th row, and what is past it is no
+// path's.
 fn first_row(labels: &[u8], n: usize, key: usize) -> usize
     requires { ⌜ (n ≤ 128) × (length (now labels) ≡ 1024) ⌝ }
     ensures { λ r. ⌜ r ≡ first (λ k. eqb (rowKey (now (labels .entry)) k) key) n ⌝ }
