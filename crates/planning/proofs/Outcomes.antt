@@ -12,7 +12,7 @@ use Rattle.rules.specs.declared.Fault.{Fault}
 use Rattle.rules.specs.declared.Planned.{Planned}
 use Rattle.rules.specs.declared.Floored.{Floored}
 use Rattle.rules.specs.Tables.{at, Lent}
-use Rattle.rules.specs.Limits.{Network}
+use Rattle.rules.specs.Limits.{Network, KeptFrom}
 use Rattle.rules.specs.Plan.{netOf}
 use Rattle.rules.specs.Packing.{lowest}
 use Rattle.rules.specs.Sides.{isHigh, hasSides, twoSided}
@@ -25,6 +25,7 @@ use Rattle.table_laws.specs.Chains.{number-of, lent-clear}
 use Rattle.plan_laws.specs.Sided.{sided-length, sided-order}
 use Rattle.plan_laws.specs.Arranged.{arranged-order, arranged-length}
 use Rattle.plan_laws.specs.Answers.{unless-done, unless-refused, Packable, pack-clear, Sidable, clear-sides, sidable-siding, Plannable, plan-clear, Floorable, floor-clear}
+use Rattle.plan_laws.specs.Engine.{packed-over}
 use Rattle.plan_laws.specs.Runs.{run-packable}
 use Rattle.sides.specs.declared.Split.{Split}
 use Rattle.sides.specs.Split.{SplitIs, split-yes, split-no}
@@ -57,6 +58,16 @@ module _ (n : ℕ) (lent : Lent) (order : List ℕ) (f : Fault) (e : f ≡ lentF
         let q = split-no (netOf lent) n order split after d h in
         let g : twoSidesFault n lent order ≡ fault 9 0 = clear-sides n lent order (two-clear z) ∙ refuse-bad (not (hasSides (netOf lent) n)) 9 0 (ap not (q .0)) in
         rw (q .1) (sym (unless-refused (twoSidesFault n lent order) _ _ (λ y. omega (arith, ap (λ (x : Fault). x .number) g)) ∙ rw g))
+
+-- what the rounds have left in the table of starts makes no difference
+pub packed-over-used : (n : ℕ) (lent : Lent) (order starts used : List ℕ) (kept : ℕ) → Packable n lent order starts → KeptFrom n starts used
+    → donePlanned (netOf lent) n order used kept ≡ donePlanned (netOf lent) n order starts kept
+unfolding donePlanned
+packed-over-used n lent order starts used kept p k =
+    rw (packed-over (netOf lent) n (at order) (p .whole) starts used (omega (arith, p .network .few, p .startsSize)) k)
+
+pub packable-used : (n : ℕ) (lent : Lent) (order starts used : List ℕ) → Packable n lent order starts → KeptFrom n starts used → Packable n lent order used
+packable-used n lent order starts used p k = record { network = p .network; orderSize = p .orderSize; startsSize = k .size ∙ p .startsSize; whole = p .whole }
 
 -- improving
 module _ (n : ℕ) (lent : Lent) (order starts : List ℕ) (seed rounds : ℕ) where

@@ -6,15 +6,12 @@ use rules::Floored;
 use rules::Planned;
 use rules::Sided;
 ghost use mathlib.Core.Path.{_≡_};
-ghost use mathlib.Core.List.{List};
-ghost use Prim.Native.Nat.{ℕ, _≤_};
-ghost use lib.ListN.{length};
 ghost use Rattle.rules.specs.Tables.{lend};
-ghost use Rattle.rules.specs.Limits.{Network};
+ghost use Rattle.rules.specs.Limits.{KeptFrom};
 ghost use Rattle.rules.specs.Plan.{netOf};
 ghost use Rattle.rules.specs.Numbers.{_orElse_, roundsFault, floorFault};
 ghost use Rattle.rules.specs.Calls.{left, siding, donePlanned, improving, planning, flooring};
-ghost use Rattle.plan_laws.specs.Answers.{Packable};
+ghost use Rattle.plan_laws.specs.Answers.{Packable, Plannable};
 ghost use Rattle.planning.specs.Chosen.{Chosen};
 
 // Finds the two sides: the two-sided order goes into its table, and the size of the low side is answered.
@@ -108,31 +105,32 @@ pub fn improve(
             kept: 0,
         };
     }
-    let run = rounds::improve_order(n, widths, guards, order, seed, rounds);
+    let run = rounds::improve_order(n, widths, guards, order, starts, seed, rounds);
     packed_plan(n, widths, guards, order, starts, run.kept)
 }
 
 // The order of a plan, and the number of swaps kept for it: with two sides the two-sided order, and no rounds are
-// run; else the greedy order, improved.
+// run; else the greedy order, improved. The rounds work in the table of starts, into which the plan will go.
 fn chosen_order(
     n: usize,
     widths: &[u16],
     guards: &[u8],
     order: &mut [u8],
+    starts: &mut [u16],
     seed: u32,
     rounds: usize,
 ) -> usize
-    requires { ⌜ Network n (lend (now widths) (now guards)) × ((length (now order) ≡ 128) × (rounds ≤ 10000)) ⌝ }
-    ensures { λ r. ⌜ ((starts : List ℕ) → length starts ≡ 128
-        → Chosen n (lend (now (widths .entry)) (now (guards .entry))) (now (order .entry)) starts seed rounds r
-        (now (order .exit))) ⌝ }
+    requires { ⌜ Plannable n (lend (now widths) (now guards)) (now order) (now starts) seed rounds ⌝ }
+    ensures { λ r. ⌜ Chosen n (lend (now (widths .entry)) (now (guards .entry))) (now (order .entry))
+        (now (starts .entry)) seed rounds r (now (order .exit)) ⌝ }
+    ensures { λ _. ⌜ KeptFrom n (now (starts .entry)) (now (starts .exit)) ⌝ }
 {
     let split = sides::sided_order(n, guards, order);
     if split.found {
         return 0;
     }
     greedy::greedy_order(n, widths, guards, order);
-    let run = rounds::improve_order(n, widths, guards, order, seed, rounds);
+    let run = rounds::improve_order(n, widths, guards, order, starts, seed, rounds);
     run.kept
 }
 
@@ -162,7 +160,7 @@ pub fn plan(
             kept: 0,
         };
     }
-    let kept = chosen_order(n, widths, guards, order, seed, rounds);
+    let kept = chosen_order(n, widths, guards, order, starts, seed, rounds);
     packed_plan(n, widths, guards, order, starts, kept)
 }
 

@@ -16,15 +16,16 @@ use Rattle.plan_laws.specs.Answers.{Packable}
 use Rattle.plan_laws.specs.Runs.{run-packable}
 use Rattle.plan_laws.specs.Improve.{swapped-order, swapped-length, swapped-back}
 use Rattle.rounds.specs.declared.Standing.{Standing}
-use Rattle.rounds.specs.Standing.{runOf, highestOf, Tried}
+use Rattle.rounds.specs.Standing.{runOf, highestOf}
 
 -- a swap of two places below n leaves an order
-pub swap-tried : (n : ℕ) (lent : Lent) (order after : List ℕ) (a b : ℕ) → Tried n lent order → a < n → b < n → after ≡ swapped order a b → Tried n lent after
-swap-tried n lent order after a b t la lb e =
+pub swap-packable : (n : ℕ) (lent : Lent) (order need after : List ℕ) (a b : ℕ) → Packable n lent order need → a < n → b < n → after ≡ swapped order a b → Packable n lent after need
+swap-packable n lent order need after a b t la lb e =
     rw e record {
       network = t .network;
-      fullOrder = swapped-length order a b ∙ t .fullOrder;
-      whole = swapped-order order n a b (omega (arith, t .fullOrder, t .network .few)) la lb (t .whole);
+      orderSize = swapped-length order a b ∙ t .orderSize;
+      startsSize = t .startsSize;
+      whole = swapped-order order n a b (omega (arith, t .orderSize, t .network .few)) la lb (t .whole);
     }
 
 -- one round: its swap is kept, or undone
@@ -56,34 +57,28 @@ round-more top n k r = go (decLt (top (tried n r)) (r .highest))
 
 -- what the loop keeps after k rounds
 pub record Improving (n : ℕ) (lent : Lent) (before : List ℕ) (seed : ℕ) (order : List ℕ) (s : Standing) (k : ℕ) : Type 0 where
-  pub tested : Tried n lent order
   pub few : s .kept ≤ k
   pub run : (table : List ℕ) → length table ≡ 128 → runOf s order ≡ improved (netOf lent) n (lowest (netOf lent)) table before seed k
 
-module _ (n : ℕ) (lent : Lent) (before : List ℕ) (seed : ℕ) (t : Tried n lent before) where
+module _ (n : ℕ) (lent : Lent) (before : List ℕ) (seed : ℕ) where
   pub improving-first : (h : ℕ) → ((table : List ℕ) → length table ≡ 128 → h ≡ highestOf n lent table before) → Improving n lent before seed before (record { state = seed; highest = h; kept = 0 }) 0
   unfolding improved rounds
-  improving-first h f = record { tested = t; few = omega arith; run = λ table l. rw (f table l) }
+  improving-first h f = record { few = omega arith; run = λ table l. rw (f table l) }
 
   pub improving-more : (order after : List ℕ) (s s′ : Standing) (k : ℕ) → Improving n lent before seed order s k
       → ((table : List ℕ) → length table ≡ 128 → runOf s′ after ≡ round (highestOf n lent table) n (runOf s order)) → Improving n lent before seed after s′ (k + 1)
   improving-more order after s s′ k i f = rw add-one record {
-    tested = record { network = t .network; fullOrder = is-order .orderSize; whole = is-order .whole };
-    few = omega (arith, i .few, ap (λ (r : Run). r .kept) (f (cleared 128 0) size), round-more (highestOf n lent (cleared 128 0)) n k (runOf s order));
-    run = next;
+    few = omega (arith, i .few, ap (λ (r : Run). r .kept) (f (cleared 128 0) (cleared-length 128 0)), round-more (highestOf n lent (cleared 128 0)) n k (runOf s order));
+    run = λ table l. f table l ∙ ap (round (highestOf n lent table) n) (i .run table l) ∙ step table;
   }
     where
-      size : length (cleared 128 0) ≡ 128
-      size = cleared-length 128 0
+      step : (table : List ℕ) → round (highestOf n lent table) n (improved (netOf lent) n (lowest (netOf lent)) table before seed k)
+          ≡ improved (netOf lent) n (lowest (netOf lent)) table before seed (suc k)
+      step table = unfold improved rounds in refl
 
-      next : (table : List ℕ) → length table ≡ 128 → runOf s′ after ≡ improved (netOf lent) n (lowest (netOf lent)) table before seed (suc k)
-      next table l = f table l ∙ ap (round (highestOf n lent table) n) (i .run table l) ∙ step table
-        where
-          step : (table : List ℕ) → round (highestOf n lent table) n (improved (netOf lent) n (lowest (netOf lent)) table before seed k)
-              ≡ improved (netOf lent) n (lowest (netOf lent)) table before seed (suc k)
-          step table = unfold improved rounds in refl
-
-      is-order : Packable n lent after (cleared 128 0)
-      is-order =
-          subst (λ (o : List ℕ). Packable n lent o (cleared 128 0)) (sym (ap (λ (r : Run). r .order) (next (cleared 128 0) size)))
-          (run-packable n lent before (cleared 128 0) seed (record { network = t .network; orderSize = t .fullOrder; startsSize = size; whole = t .whole }) (suc k))
+  -- the order so far can be packed, into any table
+  pub improving-packable : (table : List ℕ) → Packable n lent before table → (order : List ℕ) (s : Standing) (k : ℕ) → Improving n lent before seed order s k → (need : List ℕ) → length need ≡ 128
+      → Packable n lent order need
+  improving-packable table t order s k i need l =
+      let p = subst (λ (o : List ℕ). Packable n lent o table) (sym (ap (λ (r : Run). r .order) (i .run table (t .startsSize)))) (run-packable n lent before table seed t k) in
+      record { network = p .network; orderSize = p .orderSize; startsSize = l; whole = p .whole }

@@ -9,7 +9,9 @@ ghost use Rattle.rules.specs.Tables.{lend};
 ghost use Rattle.rules.specs.Planning.{round, improved};
 ghost use Rattle.rules.specs.Plan.{netOf};
 ghost use Rattle.rules.specs.Packing.{lowest};
-ghost use Rattle.rounds.specs.Standing.{runOf, highestOf, Tried};
+ghost use Rattle.rules.specs.Limits.{KeptFrom};
+ghost use Rattle.plan_laws.specs.Answers.{Packable};
+ghost use Rattle.rounds.specs.Standing.{runOf, highestOf};
 
 // Where improving stands: the state of the draws, the highest slot of the order so far, and the number of
 // swaps kept.
@@ -20,19 +22,27 @@ pub struct Standing {
 }
 
 // One round: two places are drawn and swapped, and the swap is undone unless the packed order is strictly
-// lower. No table is tested here.
-fn one_round(n: usize, widths: &[u16], guards: &[u8], order: &mut [u8], run: Standing) -> Standing
-    requires { ⌜ Tried n (lend (now widths) (now guards)) (now order) × (run .kept < 10000) ⌝ }
+// lower. No table is tested here. The lowest starts go into a table that is lent.
+fn one_round(
+    n: usize,
+    widths: &[u16],
+    guards: &[u8],
+    order: &mut [u8],
+    need: &mut [u16],
+    run: Standing,
+) -> Standing
+    requires { ⌜ Packable n (lend (now widths) (now guards)) (now order) (now need) × (run .kept < 10000) ⌝ }
     ensures { λ r. ⌜ ((table : List ℕ) → length table ≡ 128 → runOf r (now (order .exit))
         ≡ round (highestOf n (lend (now (widths .entry)) (now (guards .entry))) table) n
         (runOf run (now (order .entry)))) ⌝ }
+    ensures { λ _. ⌜ KeptFrom n (now (need .entry)) (now (need .exit)) ⌝ }
 {
     let x = draws::next_state(run.state);
     let y = draws::next_state(x);
     let a = draws::place_of(n, x);
     let b = draws::place_of(n, y);
     draws::swap(order, a, b);
-    let h = engine::height_of(n, widths, guards, order);
+    let h = engine::height_of(n, widths, guards, order, need);
     if h < run.highest {
         return Standing {
             state: y,
@@ -48,22 +58,24 @@ fn one_round(n: usize, widths: &[u16], guards: &[u8], order: &mut [u8], run: Sta
     }
 }
 
-// So many rounds from a seed. The order is left as the last of them leaves it.
+// So many rounds from a seed. The order is left as the last of them leaves it, and the lent table with what it took.
 pub fn improve_order(
     n: usize,
     widths: &[u16],
     guards: &[u8],
     order: &mut [u8],
+    need: &mut [u16],
     seed: u32,
     count: usize,
 ) -> Standing
-    requires { ⌜ Tried n (lend (now widths) (now guards)) (now order) × (count ≤ 10000) ⌝ }
+    requires { ⌜ Packable n (lend (now widths) (now guards)) (now order) (now need) × (count ≤ 10000) ⌝ }
     ensures { λ r. ⌜ ((table : List ℕ) → length table ≡ 128 → runOf r (now (order .exit))
         ≡ improved (netOf (lend (now (widths .entry)) (now (guards .entry)))) n
         (lowest (netOf (lend (now (widths .entry)) (now (guards .entry))))) table (now (order .entry)) seed
         count) ⌝ }
+    ensures { λ _. ⌜ KeptFrom n (now (need .entry)) (now (need .exit)) ⌝ }
 {
-    let h = engine::height_of(n, widths, guards, order);
+    let h = engine::height_of(n, widths, guards, order, need);
     let mut run = Standing {
         state: seed,
         highest: h,
@@ -71,7 +83,7 @@ pub fn improve_order(
     };
     let mut k: usize = 0;
     while k < count {
-        run = one_round(n, widths, guards, order, run);
+        run = one_round(n, widths, guards, order, need, run);
         k += 1;
     }
     run

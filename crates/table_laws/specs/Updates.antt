@@ -39,3 +39,10 @@ kept-none n t = record { size = refl; cells = λ k l. refl }
 
 pub kept-set : (n : ℕ) (t s : List ℕ) (c v : ℕ) → c < n → KeptFrom n t s → KeptFrom n t (set s c v)
 kept-set n t s c v l h = record { size = length-set s c v ∙ h .size; cells = λ k g. at-other s c v k (λ e. omega arith) ∙ h .cells k g }
+
+-- one after the other, and a loop over the cells below n
+pub kept-then : (n : ℕ) (t s r : List ℕ) → KeptFrom n t s → KeptFrom n s r → KeptFrom n t r
+kept-then n t s r p q = record { size = q .size ∙ p .size; cells = λ k l. q .cells k l ∙ p .cells k l }
+
+pub kept-update : (f : ℕ → ℕ → ℕ) (n : ℕ) (t s : List ℕ) → Updated f t s n → KeptFrom n t s
+kept-update f n t s u = record { size = u .long; cells = u .left }

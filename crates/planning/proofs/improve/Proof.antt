@@ -2,7 +2,7 @@ use mathlib.Core.Path.{_≡_, refl, _∙_}
 use Prim.Native.Nat.{_≤_}
 use Rattle.rules.specs.Tables.{lend}
 use Rattle.plan_laws.specs.Answers.{Packable}
-use Rattle.planning.proofs.Outcomes.{improved-packable, improved-done, improve-refused, improve-clear, improve-done}
+use Rattle.planning.proofs.Outcomes.{packed-over-used, packable-used, improved-packable, improved-done, improve-refused, improve-clear, improve-done}
 use borrow.Author.Needs.{needs}
 use Rattle.planning.proofs.improve.Statement.{statement}
 use Rattle.planning.proofs.improve.Tie as tie
@@ -28,13 +28,14 @@ clear c =
     improve-clear (a .n) (lend (a .widths .now) (a .guards .now)) (a .order .now) (a .starts .now) (a .seed) (a .rounds) _ _ (c .before .before .then-rounds .ensures) (c .before .before .before .pack-fault .ensures (a .starts .now) refl) (c .if1 .left)
 
 improve-order-requires : tie.Need-improve-order-requires
-improve-order-requires c κs = let p = clear (c .before) in (record { network = p .0 .network; fullOrder = p .0 .orderSize; whole = p .0 .whole }, p .1)
+improve-order-requires c κs = clear (c .before .before)
 
 packed-plan-requires : tie.Need-packed-plan-requires
 packed-plan-requires c κs =
-    let a = c .before .before .before .before .before .before .before .before .before .before .before .before .before .before .before .args in
-    let p = clear (c .before .before .before .before .before .before) .0 in
-    improved-packable (a .n) (lend (a .widths .now) (a .guards .now)) (a .order .now) (a .starts .now) (a .seed) (a .rounds) p (c .before .before .before .before .improve-order .result) _ (c .before .before .before .before .improve-order .ensures (a .starts .now) (p .startsSize))
+    let a = c .before .before .before .before .before .before .before .before .before .before .before .before .before .before .before .before .before .before .args in
+    let p = clear (c .before .before .before .before .before .before .before .before .before) .0 in
+    let o = c .before .before .before .before .before .before .improve-order .ensures in
+    packable-used (a .n) (lend (a .widths .now) (a .guards .now)) _ (a .starts .now) _ (improved-packable (a .n) (lend (a .widths .now) (a .guards .now)) (a .order .now) (a .starts .now) (a .seed) (a .rounds) p (c .before .before .before .before .before .before .improve-order .result) _ (o .0 (a .starts .now) (p .startsSize))) (o .1)
 
 same-length-2 : tie.Need-same-length-2
 same-length-2 c = search needs
@@ -44,10 +45,14 @@ same-length-3 c = search needs
 
 returns-2 : tie.Need-returns-2
 returns-2 c =
-    let a = c .before .before .before .before .before .before .before .before .before .before .before .before .before .before .before .before .before .before .args in
-    let e = c .before .before .before .before .before .before .before .improve-order .ensures (a .starts .now) (clear (c .before .before .before .before .before .before .before .before .before) .0 .startsSize) in
-    improve-done (a .n) (lend (a .widths .now) (a .guards .now)) (a .order .now) (a .starts .now) (a .seed) (a .rounds) _ _ (c .before .before .before .before .before .before .before .before .before .before .before .then-rounds .ensures) (c .before .before .before .before .before .before .before .before .before .before .before .before .pack-fault .ensures (a .starts .now) refl) (c .before .before .before .before .before .before .before .before .before .if1 .left)
-    _ _ (c .before .before .packed-plan .ensures ∙ improved-done (a .n) (lend (a .widths .now) (a .guards .now)) (a .order .now) (a .starts .now) (a .seed) (a .rounds) (c .before .before .before .before .before .before .before .improve-order .result) _ e)
+    let a = c .before .before .before .before .before .before .before .before .before .before .before .before .before .before .before .before .before .before .before .before .before .args in
+    let p = clear (c .before .before .before .before .before .before .before .before .before .before .before .before) .0 in
+    let o = c .before .before .before .before .before .before .before .before .before .improve-order .ensures in
+    let e = o .0 (a .starts .now) (p .startsSize) in
+    improve-done (a .n) (lend (a .widths .now) (a .guards .now)) (a .order .now) (a .starts .now) (a .seed) (a .rounds) _ _ (c .before .before .before .before .before .before .before .before .before .before .before .before .before .before .then-rounds .ensures) (c .before .before .before .before .before .before .before .before .before .before .before .before .before .before .before .pack-fault .ensures (a .starts .now) refl) (c .before .before .before .before .before .before .before .before .before .before .before .before .if1 .left)
+    _ _ (c .before .before .packed-plan .ensures
+    ∙ packed-over-used (a .n) (lend (a .widths .now) (a .guards .now)) _ (a .starts .now) _ _ (improved-packable (a .n) (lend (a .widths .now) (a .guards .now)) (a .order .now) (a .starts .now) (a .seed) (a .rounds) p (c .before .before .before .before .before .before .before .before .before .improve-order .result) _ e) (o .1)
+    ∙ improved-done (a .n) (lend (a .widths .now) (a .guards .now)) (a .order .now) (a .starts .now) (a .seed) (a .rounds) (c .before .before .before .before .before .before .before .before .before .improve-order .result) _ e)
 
 pub improve-spec : {M : Type 1} → statement M
 improve-spec =
