@@ -34,24 +34,24 @@
  *   - The library keeps no state and allocates nothing, and needs nothing but memset and
  *     memcpy. Calls on different tables may run at the same time.
  *
- * Stack. The most bytes that a call uses on x86-64, whatever it is lent, from its caller's stack
+ * Stack. The bytes that a call uses on x86-64, whatever it is lent, from its caller's stack
  * pointer down: arguments on the stack, return address, and all below. memset and memcpy count
- * with their return address alone.
+ * with their return address alone. No function calls itself. README.md says what each call holds.
  *
  *   nesbrunka_judge            336
- *   nesbrunka_pack             672
+ *   nesbrunka_pack             560
  *   nesbrunka_press            672
  *   nesbrunka_why              672
- *   nesbrunka_better           976
- *   nesbrunka_two_sides      1,248
- *   nesbrunka_plan           1,344
- *   nesbrunka_improve          701
- *   nesbrunka_floor          2,368
- *   nesbrunka_read           1,272
- *   nesbrunka_write          1,488
+ *   nesbrunka_better           688
+ *   nesbrunka_two_sides        336
+ *   nesbrunka_plan             688
+ *   nesbrunka_improve          616
+ *   nesbrunka_floor          1,328
+ *   nesbrunka_read             312
+ *   nesbrunka_write            400
  *   nesbrunka_centre             8
  *   nesbrunka_centre_number      8
- *   nesbrunka_order_write    1,488
+ *   nesbrunka_order_write      432
  *   nesbrunka_order_read       592
  *
  * Answers. `number` is NESBRUNKA_DONE or the number of a refusal, `place` says where. A refused
@@ -65,9 +65,9 @@
 #include <stddef.h>
 #include <stdint.h>
 
-#define NESBRUNKA_VERSION "0.13.0"
+#define NESBRUNKA_VERSION "0.14.0"
 #define NESBRUNKA_VERSION_MAJOR 0
-#define NESBRUNKA_VERSION_MINOR 13
+#define NESBRUNKA_VERSION_MINOR 14
 #define NESBRUNKA_VERSION_PATCH 0
 
 #ifdef __cplusplus

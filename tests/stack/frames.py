@@ -7,7 +7,6 @@ way of calls. The arguments that the caller puts on the stack are not in it.
 import re
 import subprocess
 
-LEVELS = {}
 LIBC = ("memset", "memcpy")
 RETURN = 8
 
@@ -39,9 +38,8 @@ def reach(name, codes, above=()):
         return RETURN
     if name in above:
         raise NoSum(f"{name} calls itself")
-    own = (RETURN + takes(codes[name])) * LEVELS.get(name, 1)
-    others = callees(name, codes[name]) - (LEVELS.keys() & {name})
-    return own + max((reach(other, codes, (*above, name)) for other in others), default=0)
+    below = max((reach(other, codes, (*above, name)) for other in callees(name, codes[name])), default=0)
+    return RETURN + takes(codes[name]) + below
 
 
 def sums(archive):

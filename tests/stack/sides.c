@@ -5,25 +5,16 @@
 #include "checks.h"
 #include "samples.h"
 
-enum {
-    NETWORKS = 11,
-    SIDES_MOST = 4096,
-    /* A function that calls none has 128 bytes below its stack pointer. What it keeps there for its
-       loops over many paths at once is not written where the paths are few. */
-    UNWRITTEN = 128
-};
+enum { NETWORKS = 11, SIDES_MOST = 4096 };
 
 /* What finding the sides used, network by network. */
-static struct {
-    size_t n, used;
-} found[NETWORKS];
+static size_t found[NETWORKS];
 
 static size_t networks;
 
-static void note(size_t n, size_t used)
+static void note(size_t used)
 {
-    found[networks].n = n;
-    found[networks].used = used;
+    found[networks] = used;
     networks++;
 }
 
@@ -32,7 +23,7 @@ static void find_sides(const char *network, void (*frame)(void), size_t number, 
     size_t used = walk(network, frame, number, 0);
     expect(network, answer.sided.low, low);
     printf("%s, %s: %zu bytes\n", call, network, used);
-    note(lent.n, used);
+    note(used);
 }
 
 static void find_all_sides(void (*frame)(void))
@@ -64,26 +55,21 @@ static void find_all_sides(void (*frame)(void))
 
 enum room { FIXED, DIFFERENT, TOO_LARGE };
 
-/* Every network of 128 paths uses the same, a smaller one no more, and less only by what is not
-   written. */
+/* Every network uses the same, to the byte, whatever its size and its conflicts are. */
 static enum room room_for_sides(void)
 {
-    size_t full = 0;
-    for (size_t k = 0; k < networks; k++)
-        if (found[k].used > full)
-            full = found[k].used;
-    for (size_t k = 0; k < networks; k++)
-        if (full - found[k].used > (found[k].n == PATHS ? 0 : UNWRITTEN))
+    for (size_t k = 1; k < networks; k++)
+        if (found[k] != found[0])
             return DIFFERENT;
-    return full <= SIDES_MOST ? FIXED : TOO_LARGE;
+    return found[0] <= SIDES_MOST ? FIXED : TOO_LARGE;
 }
 
 /* Of two networks. */
-static enum room room_of(size_t n, size_t used, size_t other_n, size_t other_used)
+static enum room room_of(size_t used, size_t other_used)
 {
     networks = 0;
-    note(n, used);
-    note(other_n, other_used);
+    note(used);
+    note(other_used);
     return room_for_sides();
 }
 
@@ -103,15 +89,14 @@ void try_sides(void)
     begin("a recursion");
     find_all_sides(frame_recursive);
     check(room_for_sides() == DIFFERENT, "a recursion is taken for fixed room");
-    check(most > 10 * found[1].used, "a recursion uses %zu bytes for two paths, and %zu for a line",
-          found[1].used, most);
+    check(most > 10 * found[1], "a recursion uses %zu bytes for two paths, and %zu for a line",
+          found[1], most);
     begin("5,000 bytes");
     size_t large = measure("5,000 bytes", frame_fill_large);
-    check(room_of(PATHS, large, PATHS, large) == TOO_LARGE, "5,000 bytes are taken for at most 4 KiB");
-    check(room_of(PATHS, SIDES_MOST, 2, SIDES_MOST - UNWRITTEN) == FIXED, "4 KiB are refused");
-    check(room_of(PATHS, 1000, 2, 1001) == DIFFERENT, "two paths may use more than 128");
-    check(room_of(PATHS, 1000, 2, 1000 - UNWRITTEN - 1) == DIFFERENT, "two paths may use any less than 128");
-    check(room_of(PATHS, 1000, PATHS, 1008) == DIFFERENT, "networks of 128 paths may differ by 8");
+    check(room_of(large, large) == TOO_LARGE, "5,000 bytes are taken for at most 4 KiB");
+    check(room_of(SIDES_MOST, SIDES_MOST) == FIXED, "4 KiB are refused");
+    check(room_of(1000, 1001) == DIFFERENT, "the second of two may use a byte more");
+    check(room_of(1000, 999) == DIFFERENT, "the second of two may use a byte less");
 }
 
 void walk_two_sides(void)
@@ -119,7 +104,7 @@ void walk_two_sides(void)
     begin("nesbrunka_two_sides");
     find_all_sides(two_sides);
     check(room_for_sides() == FIXED, "%s: %zu bytes for one path, at most %zu: not the same, or over %d",
-          call, found[0].used, most, SIDES_MOST);
+          call, found[0], most, SIDES_MOST);
     lay_dense(PATHS);
     refuse_network(two_sides);
     tell();

@@ -8,7 +8,7 @@ use mathlib.Core.Bool.{Bool, true, false, cond}
 use mathlib.Core.List.{List, _++_}
 use native.Mathlib.Omega.{arith}
 use native.Mathlib.Decide.{decLt}
-use lib.ListN.{length, set, drop, length-set, length-append, length-drop}
+use lib.ListN.{length, set, drop, length-append, length-drop}
 use lib.Seq.{ext-getD, getD-drop, getD-append-add}
 use lib.Dec.{eqb}
 use Rattle.rules.specs.declared.Fault.{Fault}

@@ -21,10 +21,10 @@ abbrev pub Marked : ℕ → (ℕ → ℕ) → ℕ → List ℕ → Type 0
 Marked n o m marks = (k : ℕ) → k < n → at marks k ≡ cond (placed o m k) 1 0
 
 -- what a mark says
-abbrev pub isMarked : List ℕ → ℕ → Bool
+abbrev isMarked : List ℕ → ℕ → Bool
 isMarked marks k = not (eqb (at marks k) 0)
 
-pub marked-is : (n : ℕ) (o : ℕ → ℕ) (m : ℕ) (marks : List ℕ) → Marked n o m marks → (k : ℕ) → k < n → isMarked marks k ≡ placed o m k
+marked-is : (n : ℕ) (o : ℕ → ℕ) (m : ℕ) (marks : List ℕ) → Marked n o m marks → (k : ℕ) → k < n → isMarked marks k ≡ placed o m k
 marked-is n o m marks h k l = rw (h k l) (go (placed o m k))
   where
     go : (b : Bool) → not (eqb (cond b 1 0) 0) ≡ b
@@ -52,6 +52,3 @@ marked-more n o m marks x e l h k g = rw add-one (go (ℕ-discrete x k))
 pub placed-local : (o r : ℕ → ℕ) (m k : ℕ) → ((i : ℕ) → i < m → o i ≡ r i) → placed o m k ≡ placed r m k
 unfolding placed
 placed-local o r m k h = found-same (λ i. eqb (o i) k) (λ i. eqb (r i) k) m (λ i l. ap (λ (x : ℕ). eqb x k) (h i l))
-
-pub marked-local : (n : ℕ) (o r : ℕ → ℕ) (m : ℕ) (marks : List ℕ) → ((i : ℕ) → i < m → o i ≡ r i) → Marked n o m marks → Marked n r m marks
-marked-local n o r m marks h g k l = g k l ∙ ap (λ (b : Bool). cond b 1 0) (placed-local o r m k h)

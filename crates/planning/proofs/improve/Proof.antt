@@ -1,4 +1,4 @@
-use mathlib.Core.Path.{_≡_, refl, _∙_}
+use mathlib.Core.Path.{refl, _∙_}
 use Prim.Native.Nat.{_≤_}
 use Rattle.rules.specs.Tables.{lend}
 use Rattle.plan_laws.specs.Answers.{Packable}

@@ -3,7 +3,6 @@ use mathlib.Core.Path.{_≡_, refl, ap, _∙_}
 use Rattle.rules.specs.Tables.{lend}
 use Rattle.rules.specs.Numbers.{sizeFault, lentFault}
 use Rattle.table_laws.specs.Chains.{size-is}
-use Rattle.plan_laws.specs.Answers.{Sidable}
 use Rattle.planning.proofs.Outcomes.{two-refused, two-clear, two-done, two-none}
 use borrow.Author.Needs.{needs}
 use Rattle.planning.proofs.two_sides.Statement.{statement}
