@@ -142,7 +142,7 @@ static void walk_plan(void)
     refuse_network(plan);
     lay_halves(PATHS);
     walk("64 with 64, all across", plan, NESBRUNKA_DONE, 0);
-    lay_ring(PATHS, PATHS - 1);
+    lay_odd_ring(PATHS);
     walk("a ring of 127 and one path", plan, NESBRUNKA_DONE, 0);
     tell();
 }
@@ -199,11 +199,12 @@ enum {
 };
 
 /* Reads the text with a part of it overwritten. */
-static void read_damaged(const char *way, size_t from, const char *part, size_t number, size_t line)
+static void damage(void (*frame)(void), const char *way, size_t from, const char *part, size_t number,
+                   size_t line)
 {
     const struct lent right = lent;
     memcpy(lent.text + from, part, strlen(part));
-    walk(way, read_sheet, number, line);
+    walk(way, frame, number, line);
     lent = right;
 }
 
@@ -226,20 +227,22 @@ static void walk_read(void)
     expect("the longest sheet", lent.text_length, NESBRUNKA_SHEET_MOST);
     walk("the longest sheet", read_sheet, NESBRUNKA_DONE, 0);
     expect("the longest sheet", answer.read.n, PATHS);
-    read_damaged("a count", 6, "129", NESBRUNKA_REFUSED_COUNT, 1);
-    read_damaged("the last label twice", LAST_PATH, "PATH-000", NESBRUNKA_REFUSED_LABEL_TWICE,
-                 LAST_PATH_NUMBER);
-    read_damaged("the last width", LAST_PATH + 9, "65", NESBRUNKA_REFUSED_WIDTH, LAST_PATH_NUMBER);
-    read_damaged("the last pair twice", LAST_PAIR, "PATH-001 PATH-000", NESBRUNKA_REFUSED_PAIR_TWICE,
-                 LAST_PAIR_NUMBER);
-    read_damaged("the last pair unknown", LAST_PAIR, "PATH-X", NESBRUNKA_REFUSED_LABEL_UNKNOWN,
-                 LAST_PAIR_NUMBER);
-    read_damaged("the last guard", LAST_PAIR + 18, "33", NESBRUNKA_REFUSED_GUARD, LAST_PAIR_NUMBER);
-    read_damaged("the last pair's form", LAST_PAIR + 18, " 9", NESBRUNKA_REFUSED_FORM, LAST_PAIR_NUMBER);
-    read_damaged("the last start of another path", LAST_START, "PATH-126", NESBRUNKA_REFUSED_LABEL_UNKNOWN,
-                 LAST_START_NUMBER);
-    read_damaged("the last start", LAST_START + 9, "16385", NESBRUNKA_REFUSED_START, LAST_START_NUMBER);
-    read_damaged("the last form", LAST_START + 9, "01638", NESBRUNKA_REFUSED_FORM, LAST_START_NUMBER);
+    damage(read_sheet, "a count", 6, "129", NESBRUNKA_REFUSED_COUNT, 1);
+    damage(read_sheet, "the last label twice", LAST_PATH, "PATH-000", NESBRUNKA_REFUSED_LABEL_TWICE,
+           LAST_PATH_NUMBER);
+    damage(read_sheet, "the last width", LAST_PATH + 9, "65", NESBRUNKA_REFUSED_WIDTH, LAST_PATH_NUMBER);
+    damage(read_sheet, "the last pair twice", LAST_PAIR, "PATH-001 PATH-000",
+           NESBRUNKA_REFUSED_PAIR_TWICE, LAST_PAIR_NUMBER);
+    damage(read_sheet, "the last pair unknown", LAST_PAIR, "PATH-X", NESBRUNKA_REFUSED_LABEL_UNKNOWN,
+           LAST_PAIR_NUMBER);
+    damage(read_sheet, "the last guard", LAST_PAIR + 18, "33", NESBRUNKA_REFUSED_GUARD, LAST_PAIR_NUMBER);
+    damage(read_sheet, "the last pair's form", LAST_PAIR + 18, " 9", NESBRUNKA_REFUSED_FORM,
+           LAST_PAIR_NUMBER);
+    damage(read_sheet, "the last start of another path", LAST_START, "PATH-126",
+           NESBRUNKA_REFUSED_LABEL_UNKNOWN, LAST_START_NUMBER);
+    damage(read_sheet, "the last start", LAST_START + 9, "16385", NESBRUNKA_REFUSED_START,
+           LAST_START_NUMBER);
+    damage(read_sheet, "the last form", LAST_START + 9, "01638", NESBRUNKA_REFUSED_FORM, LAST_START_NUMBER);
     lent.text_length--;
     walk("the last line feed", read_sheet, NESBRUNKA_REFUSED_FORM, LAST_START_NUMBER);
     lent.text_length += 2;
@@ -322,14 +325,6 @@ static void walk_order_write(void)
 /* The same in the longest order sheet. */
 enum { ORDER_LINE = 18, LAST_ORDER = NESBRUNKA_ORDER_MOST - ORDER_LINE, LAST_ORDER_NUMBER = 129 };
 
-static void read_damaged_order(const char *way, size_t from, const char *part, size_t number, size_t line)
-{
-    const struct lent right = lent;
-    memcpy(lent.text + from, part, strlen(part));
-    walk(way, order_read, number, line);
-    lent = right;
-}
-
 static void walk_order_read(void)
 {
     begin("nesbrunka_order_read");
@@ -348,14 +343,14 @@ static void walk_order_read(void)
     expect("the longest order sheet", lent.text_length, NESBRUNKA_ORDER_MOST);
     walk("the longest order sheet", order_read, NESBRUNKA_DONE, 0);
     refuse_network(order_read);
-    read_damaged_order("the count", 6, "127", NESBRUNKA_REFUSED_COUNT, 1);
-    read_damaged_order("the last label", LAST_ORDER, "PATH-126", NESBRUNKA_REFUSED_LABEL_UNKNOWN,
-                       LAST_ORDER_NUMBER);
-    read_damaged_order("the last m", LAST_ORDER + 15, "63", NESBRUNKA_REFUSED_WIDTH, LAST_ORDER_NUMBER);
-    read_damaged_order("the last n", LAST_ORDER + 9, "99999", NESBRUNKA_REFUSED_START, LAST_ORDER_NUMBER);
-    read_damaged_order("the last n, below 0", LAST_ORDER + 9, "-9999", NESBRUNKA_REFUSED_START,
-                       LAST_ORDER_NUMBER);
-    read_damaged_order("the last form", LAST_ORDER + 9, "-0999", NESBRUNKA_REFUSED_FORM, LAST_ORDER_NUMBER);
+    damage(order_read, "the count", 6, "127", NESBRUNKA_REFUSED_COUNT, 1);
+    damage(order_read, "the last label", LAST_ORDER, "PATH-126", NESBRUNKA_REFUSED_LABEL_UNKNOWN,
+           LAST_ORDER_NUMBER);
+    damage(order_read, "the last m", LAST_ORDER + 15, "63", NESBRUNKA_REFUSED_WIDTH, LAST_ORDER_NUMBER);
+    damage(order_read, "the last n", LAST_ORDER + 9, "99999", NESBRUNKA_REFUSED_START, LAST_ORDER_NUMBER);
+    damage(order_read, "the last n, below 0", LAST_ORDER + 9, "-9999", NESBRUNKA_REFUSED_START,
+           LAST_ORDER_NUMBER);
+    damage(order_read, "the last form", LAST_ORDER + 9, "-0999", NESBRUNKA_REFUSED_FORM, LAST_ORDER_NUMBER);
     lent.text_length++;
     walk("a byte left over", order_read, NESBRUNKA_REFUSED_FORM, LAST_ORDER_NUMBER + 1);
     lent.anchor = NESBRUNKA_ANCHOR_MOST + 1;

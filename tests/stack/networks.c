@@ -60,8 +60,9 @@ void lay_mixed_line(size_t n)
         join(37 * (k - 1) % n, 37 * k % n, NESBRUNKA_GUARD_MOST);
 }
 
-void lay_ring(size_t n, size_t length)
+void lay_odd_ring(size_t n)
 {
+    const size_t length = n - (n + 1) % 2;
     lay(n);
     for (size_t k = 0; k < length; k++)
         join(k, (k + 1) % length, NESBRUNKA_GUARD_MOST);

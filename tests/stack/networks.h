@@ -31,11 +31,11 @@ void join(size_t i, size_t j, uint8_t guard);
 void lay(size_t n);
 
 /* Networks with the largest guard. In conflict are: each path with the next one; each with the one that
-   has 37 more, counted around; the first `length` in a ring; the first with all others; each even one
-   with the next; all with all; all of the first half with all of the second. */
+   has 37 more, counted around; all in a ring, but for the last where they are even; the first with all
+   others; each even one with the next; all with all; all of the first half with all of the second. */
 void lay_line(size_t n);
 void lay_mixed_line(size_t n);
-void lay_ring(size_t n, size_t length);
+void lay_odd_ring(size_t n);
 void lay_star(size_t n);
 void lay_pairs(size_t n);
 void lay_dense(size_t n);

@@ -18,39 +18,35 @@ static void note(size_t used)
     networks++;
 }
 
-static void find_sides(const char *network, void (*frame)(void), size_t number, size_t low)
-{
-    size_t used = walk(network, frame, number, 0);
-    expect(network, answer.sided.low, low);
-    printf("%s, %s: %zu bytes\n", call, network, used);
-    note(used);
-}
+/* The networks: how each is laid, and what finding its sides answers. */
+static const struct {
+    const char *name;
+    void (*lay)(size_t n);
+    size_t n, number, low;
+} laid[NETWORKS] = {
+    {"one path", lay, 1, NESBRUNKA_DONE, 1},
+    {"two paths", lay_line, 2, NESBRUNKA_DONE, 1},
+    {"a ring of three, no sides", lay_odd_ring, 3, NESBRUNKA_REFUSED_NO_SIDES, 0},
+    {"128 paths without a conflict", lay, PATHS, NESBRUNKA_DONE, PATHS},
+    {"a line of 128", lay_line, PATHS, NESBRUNKA_DONE, PATHS / 2},
+    {"a line of 128, its numbers mixed", lay_mixed_line, PATHS, NESBRUNKA_DONE, PATHS / 2},
+    {"a star of 128", lay_star, PATHS, NESBRUNKA_DONE, 1},
+    {"64 pairs", lay_pairs, PATHS, NESBRUNKA_DONE, PATHS / 2},
+    {"64 with 64, all across", lay_halves, PATHS, NESBRUNKA_DONE, PATHS / 2},
+    {"128 all with all, no sides", lay_dense, PATHS, NESBRUNKA_REFUSED_NO_SIDES, 0},
+    {"a ring of 127 and one path, no sides", lay_odd_ring, PATHS, NESBRUNKA_REFUSED_NO_SIDES, 0},
+};
 
 static void find_all_sides(void (*frame)(void))
 {
     networks = 0;
-    lay(1);
-    find_sides("one path", frame, NESBRUNKA_DONE, 1);
-    lay_line(2);
-    find_sides("two paths", frame, NESBRUNKA_DONE, 1);
-    lay_ring(3, 3);
-    find_sides("a ring of three, no sides", frame, NESBRUNKA_REFUSED_NO_SIDES, 0);
-    lay(PATHS);
-    find_sides("128 paths without a conflict", frame, NESBRUNKA_DONE, PATHS);
-    lay_line(PATHS);
-    find_sides("a line of 128", frame, NESBRUNKA_DONE, PATHS / 2);
-    lay_mixed_line(PATHS);
-    find_sides("a line of 128, its numbers mixed", frame, NESBRUNKA_DONE, PATHS / 2);
-    lay_star(PATHS);
-    find_sides("a star of 128", frame, NESBRUNKA_DONE, 1);
-    lay_pairs(PATHS);
-    find_sides("64 pairs", frame, NESBRUNKA_DONE, PATHS / 2);
-    lay_halves(PATHS);
-    find_sides("64 with 64, all across", frame, NESBRUNKA_DONE, PATHS / 2);
-    lay_dense(PATHS);
-    find_sides("128 all with all, no sides", frame, NESBRUNKA_REFUSED_NO_SIDES, 0);
-    lay_ring(PATHS, PATHS - 1);
-    find_sides("a ring of 127 and one path, no sides", frame, NESBRUNKA_REFUSED_NO_SIDES, 0);
+    for (size_t k = 0; k < NETWORKS; k++) {
+        laid[k].lay(laid[k].n);
+        size_t used = walk(laid[k].name, frame, laid[k].number, 0);
+        expect(laid[k].name, answer.sided.low, laid[k].low);
+        printf("%s, %s: %zu bytes\n", call, laid[k].name, used);
+        note(used);
+    }
 }
 
 enum room { FIXED, DIFFERENT, TOO_LARGE };
