@@ -17,6 +17,7 @@ use Rattle.rules.specs.Sheet.{lastField, countLine, pathLine, guardLine}
 use Rattle.rules.specs.Writing.{countText}
 use Rattle.sheet_laws.specs.Texts.{All, run-take, digit-bounds, spell-small, spell-big, spell-more}
 use Rattle.demands.specs.RoundTrip.{run-all, count-trip, line-trip, guard-trip}
+use Rattle.table_laws.specs.Scans.{and-both}
 
 -- a byte of a label: a digit, a capital, or a hyphen
 abbrev pub LabelByte : ℕ → Type 0
@@ -51,10 +52,6 @@ byte-label x (inr (inl h)) = rw (le-leb 65 x (h .0), le-leb x 90 (h .1), or-true
 byte-label x (inr (inr e)) = rw (eq-eqb x 45 e, or-true)
 
 -- fields, taken off the front of a text
-both : (a b : Bool) → (a && b) ≡ true → (a ≡ true) × (b ≡ true)
-both true b e = (refl, e)
-both false b e = absurd (false≢true e)
-
 pub then-some : {A B : Type 0} (p : Parsed A) (k : A → List ℕ → Parsed B) (b : B) (l : List ℕ) → then p k ≡ some b l → (a : A) × (l₁ : List ℕ) × (p ≡ some a l₁) × (k a l₁ ≡ some b l)
 unfolding then
 then-some none k b l e = let z : _≡_ {A = ℕ} 0 1 = cc in absurd (omega arith)
@@ -96,7 +93,7 @@ label-field l w r = go (ltb 0 (length (run isLabelByte l)) && leb (length (run i
     go true f e =
         let q : W ≡ w = cc in
         let d : drop (length W) l ≡ r = cc in
-        let h = both _ _ f in
+        let h = and-both _ _ f in
         subst (λ (v : List ℕ). Label v × (l ≡ v ++ r)) q (
           record { some = ltb-true 0 (length W) (h .0); few = leb-true (length W) 8 (h .1); bytes = all-bytes W (run-all isLabelByte l) },
           sym (take-append-drop (length W) l) ∙ ap (λ (v : List ℕ). v ++ drop (length W) l) (sym (run-take isLabelByte l)) ∙ ap (λ (v : List ℕ). W ++ v) d,

@@ -15,7 +15,7 @@ use Rattle.rules.specs.Scan.{sum}
 use Rattle.rules.specs.Text.{numeral}
 use Rattle.rules.specs.Sheet.{Line, right, done, follow, lines, guardLine, guardStep}
 use Rattle.rules.specs.Writing.{labelOf, isPair, pairs, joinFrom, guardText}
-use Rattle.table_laws.specs.Scans.{sumFrom, sum-from}
+use Rattle.table_laws.specs.Scans.{and-false, sumFrom, sum-from}
 use Rattle.table_laws.specs.Tables.{at-same, at-other, cleared-length, cleared-at}
 use Rattle.sheet_laws.specs.Lines.{guard-fine, guard-any}
 use Rattle.sheet_laws.specs.Writes.{label-short, pairText, guard-none, guard-some, pair-order, pair-none}
@@ -41,10 +41,6 @@ square-in n guards c a b = rw (lt-ltb (c / 128) n a, lt-ltb (c % 128) n b)
 pub square-row : (n : ℕ) (guards : List ℕ) (c : ℕ) → n ≤ c / 128 → squareOf n guards c ≡ 255
 unfolding squareOf
 square-row n guards c a = rw (le-ltb (c / 128) n a)
-
-and-false : (b : Bool) → (b && false) ≡ false
-and-false true = refl
-and-false false = refl
 
 pub square-column : (n : ℕ) (guards : List ℕ) (c : ℕ) → n ≤ c % 128 → squareOf n guards c ≡ 255
 unfolding squareOf

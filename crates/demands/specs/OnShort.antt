@@ -3,7 +3,7 @@
 use Prim.Native.Nat.{ℕ, _+_, _-_, _≤_, _<_}
 use mathlib.Core.Path.{_≡_, refl, sym, ap, _∙_}
 use mathlib.Core.Logic.{_≢_, _⊎_, inl, inr, _↔_}
-use mathlib.Core.Bool.{Bool, true, false, cond, not, _&&_}
+use mathlib.Core.Bool.{Bool, true, false, cond, not}
 use mathlib.Core.List.{List, [], _∷_}
 use native.Mathlib.Omega.{arith}
 use native.Mathlib.Decide.{decLt}
@@ -29,6 +29,7 @@ use Rattle.plan_laws.specs.Clash.{close-parts}
 use Rattle.plan_laws.specs.Judge.{clear-distance, distance-clear, distance-below, distance-above}
 use Rattle.demands.specs.Tests.{told, Squared, allRight, firstBad, squared, gives-one, silent-rest}
 use Rattle.demands.specs.OnRefusing.{unsaid, lent-unsaid, judging-gives, pressing-gives, explaining-gives}
+use Rattle.table_laws.specs.Scans.{and-false}
 
 -- of two paths the lower and the upper
 unfoldable pub lower : (ℕ → ℕ) → ℕ → ℕ → ℕ
@@ -103,11 +104,7 @@ short-either net p i j l = unfold short in (rw other (go (isLower p i j)))
         side (yes x) = rw (lower-above p i j x) (unfold isLower in (rw (lt-ltb (p j) (p i) x)))
         side (no x) =
             rw (lower-below p i j l (omega arith))
-            (unfold isLower in (rw (le-ltb (p j) (p i) (omega arith), le-ltb j i (omega arith)) (never (eqb (p j) (p i)))))
-          where
-            never : (b : Bool) → (b && false) ≡ false
-            never true = refl
-            never false = refl
+            (unfold isLower in (rw (le-ltb (p j) (p i) (omega arith), le-ltb j i (omega arith)) (and-false (eqb (p j) (p i)))))
 
     go : (b : Bool) → cond b (past net i j (p i) - p j) (past net j i (p j) - p i) ≡ cond (not b) (past net j i (p j) - p i) (past net i j (p i) - p j)
     go true = refl

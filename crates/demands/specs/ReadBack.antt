@@ -3,7 +3,7 @@
 use Prim.Native.Nat.{ℕ, zero, suc, _+_, _*_, _≤_, _<_}
 use mathlib.Core.Path.{_≡_, refl, sym, ap, subst, _∙_}
 use mathlib.Core.Logic.{_≢_, _⊎_, inl, inr}
-use mathlib.Core.Bool.{Bool, true, false, cond, not, _&&_, true≢false, false≢true}
+use mathlib.Core.Bool.{Bool, true, false, cond, not, _&&_, true≢false}
 use mathlib.Core.List.{List, [], _∷_}
 use native.Mathlib.Omega.{arith}
 use native.Mathlib.Decide.{decLt, ℕ-discrete}
@@ -21,7 +21,7 @@ use Rattle.rules.specs.declared.SheetRead.{SheetRead}
 use Rattle.rules.specs.declared.SheetWritten.{SheetWritten}
 use Rattle.rules.specs.Calls.{Left, readOutcome, reading, writing}
 use Rattle.table_laws.specs.Count.{each-suc}
-use Rattle.table_laws.specs.Scans.{found-none, found-same, sum-same}
+use Rattle.table_laws.specs.Scans.{and-both, and-false, found-none, found-same, sum-same}
 use Rattle.table_laws.specs.Tables.{at-same, at-other, cleared-length, cleared-at}
 use Rattle.plan_laws.specs.Answers.{unless-done}
 use Rattle.sheet_laws.specs.Texts.{All}
@@ -64,11 +64,6 @@ lines-keep {T} step top bound P keep (suc m) k t l t′ l′ h p e = go (step k 
     go (wrong x) f ih e = let z : _≡_ {A = ℕ} 0 1 = cc in absurd (omega arith)
     go (right s r) f ih e = let z : suc k + m ≡ k + suc m = omega arith in subst (λ x. P x t′) z (ih s r (keep k t l s r (omega arith) p f) e)
 
--- two tests
-both : (a b : Bool) → (a && b) ≡ true → (a ≡ true) × (b ≡ true)
-both true b e = (refl, e)
-both false b e = absurd (false≢true e)
-
 -- A label that was read
 label-is : (l w r : List ℕ) → label l ≡ some w r → All isLabelByte w × (0 < length w) × (length w ≤ 8)
 unfolding label
@@ -78,7 +73,7 @@ label-is l w r = go (ltb 0 (length (run isLabelByte l)) && leb (length (run isLa
         → cond b (some (run isLabelByte l) (drop (length (run isLabelByte l)) l)) none ≡ some w r → All isLabelByte w × (0 < length w) × (length w ≤ 8)
     go true f e =
         let q : run isLabelByte l ≡ w = cc in
-        let h = both _ _ f in
+        let h = and-both _ _ f in
         subst (λ (w : List ℕ). All isLabelByte w × (0 < length w) × (length w ≤ 8)) q (run-all isLabelByte l, ltb-true 0 (length (run isLabelByte l)) (h .0), leb-true (length (run isLabelByte l)) 8 (h .1))
     go false f e = let z : _≡_ {A = ℕ} 0 1 = cc in absurd (omega arith)
 
@@ -217,7 +212,7 @@ paths-keep k t l t′ l′ b p = go (pathLine l) refl
         by false g false h e = let z : _≡_ {A = ℕ} 0 1 = cc in absurd (omega arith)
         by false g true h e =
             let q : (putRow (t .0) k w, set (t .1) k v) ≡ t′ = line-table e in
-            let x = both (leb 1 v) (leb v 64) h in
+            let x = and-both (leb 1 v) (leb v 64) h in
             subst (PathsRead (suc k)) q (put w v (path-label l w v r f) g (leb-true 1 v (x .0), leb-true v 64 (x .1)))
           where
             line-table : right (putRow (t .0) k w, set (t .1) k v) r ≡ right t′ l′ → (putRow (t .0) k w, set (t .1) k v) ≡ t′
@@ -257,10 +252,6 @@ module _ (n : ℕ) (few : n ≤ 128) where
     where
       blank : (a b : ℕ) → a < n → b < n → at (cleared 16384 255) (cell a b) ≡ 255
       blank a b x y = cleared-at 16384 255 (cell a b) (omega arith)
-
-      and-false : (c : Bool) → (c && false) ≡ false
-      and-false true = refl
-      and-false false = refl
 
       not-pair : (a b : ℕ) → a < n → b < n → isPair (cleared 16384 255) a b ≡ false
       not-pair a b x y = unfold isPair in (rw (blank a b x y) (and-false (ltb a b)))
@@ -377,8 +368,8 @@ module _ (n : ℕ) (few : n ≤ 128) where
           by true f true false h e = let z : _≡_ {A = ℕ} 0 1 = cc in absurd (omega arith)
           by true f true true h e =
               let q : set (set t (cell i j) g) (cell j i) g ≡ t′ = cc in
-              let x = both (ltb i n && ltb j n) (not (eqb i j)) f in
-              let y = both (ltb i n) (ltb j n) (x .0) in
+              let x = and-both (ltb i n && ltb j n) (not (eqb i j)) f in
+              let y = and-both (ltb i n) (ltb j n) (x .0) in
               subst (GuardsRead n (suc k)) q (guards-more k i j g t r (ltb-true i n (y .0)) (ltb-true j n (y .1)) (eqb-false i j (not-true (eqb i j) (x .1))) (leb-true g 32 h))
 
       go : (x : Parsed (List ℕ × (List ℕ × ℕ))) → guardMeans n labels t x ≡ right t′ l′ → GuardsRead n (suc k) t′
@@ -403,7 +394,7 @@ starts-keep labels k t l t′ l′ b r = go (pathLine l)
         by true false h e = let z : _≡_ {A = ℕ} 0 1 = cc in absurd (omega arith)
         by true true h e =
             let q : set t k (u .1) ≡ t′ = cc in
-            let x = both (leb 1 (u .1)) (leb (u .1) 16384) h in
+            let x = and-both (leb 1 (u .1)) (leb (u .1) 16384) h in
             subst (StartsRead (suc k)) q record {
               long = length-set t k (u .1) ∙ r .long;
               start = each-suc (λ i. (1 ≤ at (set t k (u .1)) i) × (at (set t k (u .1)) i ≤ 16384)) k
@@ -447,7 +438,7 @@ unfolding sheetFrom guardsPart
 sheet-read l t l′ e =
     let a = counted-done (countLine pathsWord l) (λ n. leb 1 n && leb n 128) 1 _ t l′ e in
     let n = a .0 in
-    let fit = both (leb 1 n) (leb n 128) (a .3) in
+    let fit = and-both (leb 1 n) (leb n 128) (a .3) in
     let few = leb-true n 128 (fit .1) in
     let b = after-done (lines pathStep 2 n 0 (cleared 1024 0, cleared 128 0) (a .1)) _ t l′ (a .4) in
     let paths : PathsRead (0 + n) (b .0) = lines-keep pathStep 2 128 PathsRead (λ k t l t′ l′ h p f. paths-keep k t l t′ l′ h p f) n 0 (cleared 1024 0, cleared 128 0) (a .1) (b .0) (b .1) (omega arith) paths-first (b .2) in

@@ -2,7 +2,7 @@
 -- path is not in conflict with itself, and past the paths there are no marks. Assumes nothing.
 use Prim.Native.Nat.{ℕ, _≤_, _<_}
 use mathlib.Core.Path.{_≡_, refl, sym, subst}
-use mathlib.Core.Bool.{Bool, true, false, _&&_, true≢false}
+use mathlib.Core.Bool.{Bool, true, false, _&&_}
 use mathlib.Core.List.{List}
 use native.Mathlib.Omega.{arith}
 use native.Mathlib.Decide.{decLt}
@@ -12,7 +12,7 @@ use Rattle.rules.specs.Tables.{at, cell, Lent}
 use Rattle.rules.specs.Scan.{found, foundPair, first}
 use Rattle.rules.specs.Plan.{netOf}
 use Rattle.rules.specs.Sides.{sameMark}
-use Rattle.table_laws.specs.Scans.{found-at, found-first, found-not, pair-none}
+use Rattle.table_laws.specs.Scans.{and-both, and-false, found-at, found-first, found-not, pair-none}
 
 -- what the tests have found of the guards of n paths
 pub record Mirrored (n : ℕ) (guards : List ℕ) : Type 0 where
@@ -26,11 +26,6 @@ pub record AllMarked (n : ℕ) (mark : List ℕ) : Type 0 where
 
 unfoldable pub alike : List ℕ → List ℕ → ℕ → ℕ → Bool
 alike guards mark i j = ltb (at guards (cell i j)) 255 && eqb (at mark i) (at mark j)
-
-both : (a b : Bool) → (a && b) ≡ true → (a ≡ true) × (b ≡ true)
-both true true e = (refl, refl)
-both true false e = absurd (true≢false (sym e))
-both false b e = absurd (true≢false (sym e))
 
 module _ (n : ℕ) (few : n ≤ 128) (guards mark : List ℕ) (m : Mirrored n guards) (w : AllMarked n mark) (lent : Lent) (q : lent .guards ≡ guards) where
   same-of : (i j : ℕ) → i < j → at guards (cell i j) < 255 → at mark i ≡ at mark j → sameMark (netOf lent) (at mark) i j ≡ true
@@ -47,10 +42,10 @@ module _ (n : ℕ) (few : n ≤ 128) (guards mark : List ℕ) (m : Mirrored n gu
   row-pair i j l h e = go (decLt j n) (decLt i j) (decLt j i)
     where
       g : at guards (cell i j) < 255
-      g = ltb-true (at guards (cell i j)) 255 (both (ltb (at guards (cell i j)) 255) (eqb (at mark i) (at mark j)) e .0)
+      g = ltb-true (at guards (cell i j)) 255 (and-both (ltb (at guards (cell i j)) 255) (eqb (at mark i) (at mark j)) e .0)
 
       s : at mark i ≡ at mark j
-      s = eqb-true (at mark i) (at mark j) (both (ltb (at guards (cell i j)) 255) (eqb (at mark i) (at mark j)) e .1)
+      s = eqb-true (at mark i) (at mark j) (and-both (ltb (at guards (cell i j)) 255) (eqb (at mark i) (at mark j)) e .1)
 
       go : Dec (j < n) → Dec (i < j) → Dec (j < i) → foundPair (sameMark (netOf lent) (at mark)) n ≡ true
       go (no x) a b = absurd (omega (arith, s, w .none j (omega arith) h, w .some i l))
@@ -62,10 +57,6 @@ module _ (n : ℕ) (few : n ≤ 128) (guards mark : List ℕ) (m : Mirrored n gu
   unfolding sameMark alike
   rows-alike = go (found (λ i. found (alike guards mark i) 128) n) refl
     where
-      but : (b : Bool) → (b && false) ≡ false
-      but true = refl
-      but false = refl
-
       go : (b : Bool) → found (λ i. found (alike guards mark i) 128) n ≡ b → b ≡ foundPair (sameMark (netOf lent) (at mark)) n
       go true e =
           let r = found-first (λ i. found (alike guards mark i) 128) n e in
@@ -74,4 +65,4 @@ module _ (n : ℕ) (few : n ≤ 128) (guards mark : List ℕ) (m : Mirrored n gu
           sym (row-pair i (first (alike guards mark i) 128) (r .0) (s .0) (s .1))
       go false e =
           sym (pair-none (sameMark (netOf lent) (at mark)) n
-          (λ i j l h. rw (q, found-not (alike guards mark i) 128 (found-not (λ i. found (alike guards mark i) 128) n e i l) j (omega arith)) (but (ltb i j))))
+          (λ i j l h. rw (q, found-not (alike guards mark i) 128 (found-not (λ i. found (alike guards mark i) 128) n e i l) j (omega arith)) (and-false (ltb i j))))

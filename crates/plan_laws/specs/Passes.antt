@@ -16,7 +16,7 @@ use Rattle.rules.specs.Scan.{sum}
 use Rattle.rules.specs.Packing.{Order, placed}
 use Rattle.rules.specs.Pressing.{choose, arranged}
 use Rattle.rules.specs.Sides.{twoSided, lowSide}
-use Rattle.table_laws.specs.Scans.{sum-same, sum-ones}
+use Rattle.table_laws.specs.Scans.{and-false, sum-same, sum-ones}
 use Rattle.table_laws.specs.Count.{weigh, weigh-same, weigh-all, count, count-le, count-more}
 use Rattle.table_laws.specs.Tables.{at-same, at-other}
 use Rattle.table_laws.specs.Orders.{placed-none, placed-suc, count-placed}
@@ -47,11 +47,7 @@ module _ (key : ℕ → ℕ) where
 
   passed-no : (value k j : ℕ) → value ≤ key j → k ≤ j → passed key value k j ≡ false
   unfolding passed
-  passed-no value k j h l = rw (le-ltb (key j) value h, le-ltb j k l) (go (eqb (key j) value))
-    where
-      go : (b : Bool) → (b && false) ≡ false
-      go true = refl
-      go false = refl
+  passed-no value k j h l = rw (le-ltb (key j) value h, le-ltb j k l) (and-false (eqb (key j) value))
 
   -- path k has its turn: where its key is of this value it is appended, else nothing is
   beyond : (k j : ℕ) → k ≢ j → ltb j k ≡ ltb j (suc k)

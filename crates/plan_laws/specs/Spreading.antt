@@ -18,7 +18,7 @@ use Rattle.rules.specs.Plan.{Net, netOf, inConflict}
 use Rattle.rules.specs.Packing.{Order, placed, packed}
 use Rattle.rules.specs.Sides.{touches, grown, opposite, marks}
 use Rattle.table_laws.specs.Count.{each-suc, count-full}
-use Rattle.table_laws.specs.Scans.{First, none, some, first-is, found-none, found-suc, found-not}
+use Rattle.table_laws.specs.Scans.{and-false, First, none, some, first-is, found-none, found-suc, found-not}
 use Rattle.table_laws.specs.Tables.{at-same, at-other, cleared-length, cleared-at}
 use Rattle.table_laws.specs.Orders.{placed-none, placed-at, placed-hit, placed-miss, count-placed}
 use Rattle.table_laws.specs.Marks.{placed-local}
@@ -79,11 +79,7 @@ between-low low high x l = rw (lt-leb low x l)
 
 between-high : (low high x : ℕ) → high < x → between low high x ≡ false
 unfolding between
-between-high low high x h = rw (lt-leb x high h) (go (leb low x))
-  where
-    go : (b : Bool) → (b && false) ≡ false
-    go true = refl
-    go false = refl
+between-high low high x h = rw (lt-leb x high h) (and-false (leb low x))
 
 between-is : (low high x : ℕ) → between low high x ≡ true → (low ≤ x) × (x ≤ high)
 unfolding between
