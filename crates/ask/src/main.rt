@@ -5,6 +5,7 @@
 // From the arguments and the bytes read to the bytes printed all is proved (`asking::answer`). `main` is calls
 // alone: that it lends `answer` what the arguments and standard input held, and writes what `answer` made, is
 // only seen by running it.
+#![tactic(auto)]
 
 use libc::{STDIN_FILENO, STDOUT_FILENO};
 

@@ -2,6 +2,7 @@
 // numbers and tables that it is lent. Each case prints a line: the name, what the call answers, and the whole
 // of each table that the call may write. What it has to print stands in `stdout`, and was not made by the
 // code under test. The notation is explained at the head of `stdin`.
+#![tactic(auto)]
 use cases::fields::{lent, number, numbers};
 use cases::{fields, show};
 use libc::STDIN_FILENO;

@@ -4,6 +4,7 @@
 //
 // From the bytes read to the bytes printed all is proved (`printing::answer`). `main` is calls alone: that it lends
 // `answer` what standard input held, and writes what `answer` made, is seen by examples/check.
+#![tactic(auto)]
 
 use libc::{STDERR_FILENO, STDIN_FILENO, STDOUT_FILENO};
 use text::Next;

@@ -1,6 +1,7 @@
 // The two sides, improving, planning and the floor. Each call is lent its tables, tests them in the order
 // of RULES 18, and has one promise: what it leaves behind is what the definition of its name in `rules`
 // says. Every `pub fn` here is a call.
+#![tactic(auto)]
 ghost use Rattle.std.specs.Prelude.{◌≡◌};
 ghost use Rattle.rules.specs.Tables.{lend};
 ghost use Rattle.rules.specs.Limits.{KeptFrom};

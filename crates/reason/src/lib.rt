@@ -1,6 +1,7 @@
 // Why a path stands where it stands (RULES 25): the chain of paths below it, each just clear of the next, and
 // how many slots the last of them can come down. `why` is a call: it is lent its tables, tests them in the order
 // of RULES 18, and leaves behind what `explaining` in `rules` says.
+#![tactic(auto)]
 ghost use Rattle.std.specs.Prelude.{◌≡◌, cond, List, ◌++◌, ℕ, ◌+◌, ◌-◌, ◌≤◌, ◌<◌, length, drop, ltb};
 ghost use Rattle.rules.specs.Tables.{at, lend};
 ghost use Rattle.rules.specs.Limits.{Network, Starts};

@@ -1,4 +1,5 @@
 // An inner crate: the rounds of improving, for the calls of planning.
+#![tactic(auto)]
 mod draws;
 
 ghost use Rattle.std.specs.Prelude.{◌≡◌, ℕ, ◌<◌, ◌≤◌, List, length};

@@ -1,4 +1,5 @@
 // The limits (RULES 3), and what each public call answers (RULES 16). The rules themselves stand in specs/.
+#![tactic(auto)]
 
 // The sizes of the tables, which do not depend on n.
 pub const PATHS: usize = 128;

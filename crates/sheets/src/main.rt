@@ -1,6 +1,7 @@
 // A test program: it reads a bundle of sheets, each ended by a zero byte, and prints a line for each:
 // number, line, n, and a checksum of each of the four tables. What it has to print stands in `stdout`, and
 // was not made by the code under test.
+#![tactic(auto)]
 ghost use Rattle.std.specs.Prelude.{◌≤◌, ◌<◌, length};
 
 use libc::{STDIN_FILENO, STDOUT_FILENO};

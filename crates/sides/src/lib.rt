@@ -1,6 +1,7 @@
 // An inner crate: the two sides of a network, for the calls of planning. They are found in fixed room and
 // with no recursion. The marks depend on the guards alone, which are all that these functions are lent:
 // what they promise holds for every network of these guards.
+#![tactic(auto)]
 ghost use Rattle.std.specs.Prelude.{◌≡◌, cond, not, ◌&&◌, List, ℕ, ◌+◌, ◌≤◌, ◌<◌, ltb, eqb, length, set};
 ghost use Rattle.rules.specs.Tables.{at, cleared, Lent};
 ghost use Rattle.rules.specs.Scan.{first, found};
