@@ -1,0 +1,12 @@
+use Rattle.rules.specs.Numbers.{size_fault, network_sizes}
+use Rattle.table_laws.specs.Faults.{or_stop, or_on}
+use borrow.Author.Rules.{rules}
+use Rattle.tables.proofs.network_sizes.Goals as goal
+
+pub returns-then-f-ne0 : goal.returns-then-f-ne0
+unfolding network_sizes size_fault
+returns-then-f-ne0 c = or_stop _ c.size_fault-f.ensures c.if-f-ne0.true
+
+pub returns : goal.returns
+unfolding network_sizes size_fault
+returns c = or_on _ c.size_fault-f.ensures c.if-f-ne0.false c.size_fault.ensures
