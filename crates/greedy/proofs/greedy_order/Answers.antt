@@ -1,0 +1,216 @@
+use native.Mathlib.Omega.{arith}
+use borrow.Author.Rules.{rules}
+use Prim.Native.Nat.{ℕ, ◌+◌, ◌*◌, ◌≤◌, ◌<◌, ◌-◌}
+use mathlib.Core.Path.{◌≡◌, refl, ◌∙◌}
+use mathlib.Core.List.{List}
+use lib.ListN.{length, replicate}
+use Rattle.rules.specs.Tables.{at, lend}
+use Rattle.table_laws.specs.Updates.{update_set}
+use Rattle.plan_laws.specs.Growing.{Growing, growing_first, growing_below, growing_bound, growing_more, growing_last}
+use Rattle.greedy.proofs.greedy_order.Goals as goal
+
+-- what is known in a turn: the chosen path is a path, and the sums fit
+record Turn (n width need m c full long : ℕ) : Type 0 where
+  pub known : c < n
+  pub few : n ≤ 128
+  pub here : m < n
+  pub low : need ≤ 1 + 96 * m
+  pub thick : 1 ≤ width
+  pub thin : width ≤ 64
+  pub wide : full ≡ 128
+  pub room : long ≡ 128
+
+pub loop-m-init : goal.loop-m-init
+loop-m-init c =
+    (c.lowest_starts.ensures.long, λ table l. growing_first c.args.n (lend c.args.widths.now c.args.guards.now) c.args.order.now table c.requires.0 c.requires.1 l _ (λ k g. c.lowest_starts.ensures.done k g))
+
+pub slice_bounds-least_key-end : goal.slice_bounds-least_key-end
+slice_bounds-least_key-end c = search rules
+
+pub least_key-c-requires : goal.least_key-c-requires
+least_key-c-requires c = omega (arith, c.loop-m.invariant.0, c.requires.0.few, c.loop-m-test.true)
+
+pub offset_bounds-widths-c : goal.offset_bounds-widths-c
+offset_bounds-widths-c c =
+    let so_far : Growing c.args.n (lend c.args.widths.now c.args.guards.now) c.args.order.now (replicate 128 0) c.loop-m.order c.loop-m.need c.loop-m.m = c.loop-m.invariant.1 (replicate 128 0) refl in
+    let turn : Turn c.args.n (at c.args.widths.now c.least_key-c.result) (at c.loop-m.need c.least_key-c.result) c.loop-m.m c.least_key-c.result (length c.loop-m.need) (length c.loop-m.order) = let g = so_far in
+    let k = growing_below c.args.n (lend c.args.widths.now c.args.guards.now) c.args.order.now (replicate 128 0) c.requires.0 c.requires.1 refl c.loop-m.order c.loop-m.need c.loop-m.m g c.loop-m-test.true c.least_key-c.result c.least_key-c.ensures in
+    record {
+      known = k;
+      few = c.requires.0.few;
+      here = c.loop-m-test.true;
+      low = growing_bound c.args.n (lend c.args.widths.now c.args.guards.now) c.args.order.now (replicate 128 0) c.requires.0 c.requires.1 refl c.loop-m.order c.loop-m.need c.loop-m.m g c.loop-m-test.true c.least_key-c.result c.least_key-c.ensures;
+      thick = (c.requires.0.width _ k).0;
+      thin = (c.requires.0.width _ k).1;
+      wide = c.loop-m.invariant.0;
+      room = g.long ∙ c.requires.1;
+    } in
+    omega (arith, turn)
+
+pub bounds-widths-c : goal.bounds-widths-c
+bounds-widths-c c =
+    let so_far : Growing c.args.n (lend c.args.widths.now c.args.guards.now) c.args.order.now (replicate 128 0) c.loop-m.order c.loop-m.need c.loop-m.m = c.loop-m.invariant.1 (replicate 128 0) refl in
+    let turn : Turn c.args.n (at c.args.widths.now c.least_key-c.result) (at c.loop-m.need c.least_key-c.result) c.loop-m.m c.least_key-c.result (length c.loop-m.need) (length c.loop-m.order) = let g = so_far in
+    let k = growing_below c.args.n (lend c.args.widths.now c.args.guards.now) c.args.order.now (replicate 128 0) c.requires.0 c.requires.1 refl c.loop-m.order c.loop-m.need c.loop-m.m g c.loop-m-test.true c.least_key-c.result c.least_key-c.ensures in
+    record {
+      known = k;
+      few = c.requires.0.few;
+      here = c.loop-m-test.true;
+      low = growing_bound c.args.n (lend c.args.widths.now c.args.guards.now) c.args.order.now (replicate 128 0) c.requires.0 c.requires.1 refl c.loop-m.order c.loop-m.need c.loop-m.m g c.loop-m-test.true c.least_key-c.result c.least_key-c.ensures;
+      thick = (c.requires.0.width _ k).0;
+      thin = (c.requires.0.width _ k).1;
+      wide = c.loop-m.invariant.0;
+      room = g.long ∙ c.requires.1;
+    } in
+    omega (arith, turn, c.requires.0.widths_size)
+
+pub slice_bounds-place-end : goal.slice_bounds-place-end
+slice_bounds-place-end c = search rules
+
+pub place-requires : goal.place-requires
+place-requires c =
+    let so_far : Growing c.args.n (lend c.args.widths.now c.args.guards.now) c.args.order.now (replicate 128 0) c.loop-m.order c.loop-m.need c.loop-m.m = c.loop-m.invariant.1 (replicate 128 0) refl in
+    let turn : Turn c.args.n (at c.args.widths.now c.least_key-c.result) (at c.loop-m.need c.least_key-c.result) c.loop-m.m c.least_key-c.result (length c.loop-m.need) (length c.loop-m.order) = let g = so_far in
+    let k = growing_below c.args.n (lend c.args.widths.now c.args.guards.now) c.args.order.now (replicate 128 0) c.requires.0 c.requires.1 refl c.loop-m.order c.loop-m.need c.loop-m.m g c.loop-m-test.true c.least_key-c.result c.least_key-c.ensures in
+    record {
+      known = k;
+      few = c.requires.0.few;
+      here = c.loop-m-test.true;
+      low = growing_bound c.args.n (lend c.args.widths.now c.args.guards.now) c.args.order.now (replicate 128 0) c.requires.0 c.requires.1 refl c.loop-m.order c.loop-m.need c.loop-m.m g c.loop-m-test.true c.least_key-c.result c.least_key-c.ensures;
+      thick = (c.requires.0.width _ k).0;
+      thin = (c.requires.0.width _ k).1;
+      wide = c.loop-m.invariant.0;
+      room = g.long ∙ c.requires.1;
+    } in
+    omega (arith, turn, c.requires.0.guards_size)
+
+pub overflow_cast-order : goal.overflow_cast-order
+overflow_cast-order c =
+    let so_far : Growing c.args.n (lend c.args.widths.now c.args.guards.now) c.args.order.now (replicate 128 0) c.loop-m.order c.loop-m.need c.loop-m.m = c.loop-m.invariant.1 (replicate 128 0) refl in
+    let turn : Turn c.args.n (at c.args.widths.now c.least_key-c.result) (at c.loop-m.need c.least_key-c.result) c.loop-m.m c.least_key-c.result (length c.loop-m.need) (length c.loop-m.order) = let g = so_far in
+    let k = growing_below c.args.n (lend c.args.widths.now c.args.guards.now) c.args.order.now (replicate 128 0) c.requires.0 c.requires.1 refl c.loop-m.order c.loop-m.need c.loop-m.m g c.loop-m-test.true c.least_key-c.result c.least_key-c.ensures in
+    record {
+      known = k;
+      few = c.requires.0.few;
+      here = c.loop-m-test.true;
+      low = growing_bound c.args.n (lend c.args.widths.now c.args.guards.now) c.args.order.now (replicate 128 0) c.requires.0 c.requires.1 refl c.loop-m.order c.loop-m.need c.loop-m.m g c.loop-m-test.true c.least_key-c.result c.least_key-c.ensures;
+      thick = (c.requires.0.width _ k).0;
+      thin = (c.requires.0.width _ k).1;
+      wide = c.loop-m.invariant.0;
+      room = g.long ∙ c.requires.1;
+    } in
+    omega (arith, turn)
+
+pub bounds-order-m : goal.bounds-order-m
+bounds-order-m c =
+    let so_far : Growing c.args.n (lend c.args.widths.now c.args.guards.now) c.args.order.now (replicate 128 0) c.loop-m.order c.loop-m.need c.loop-m.m = c.loop-m.invariant.1 (replicate 128 0) refl in
+    let turn : Turn c.args.n (at c.args.widths.now c.least_key-c.result) (at c.loop-m.need c.least_key-c.result) c.loop-m.m c.least_key-c.result (length c.loop-m.need) (length c.loop-m.order) = let g = so_far in
+    let k = growing_below c.args.n (lend c.args.widths.now c.args.guards.now) c.args.order.now (replicate 128 0) c.requires.0 c.requires.1 refl c.loop-m.order c.loop-m.need c.loop-m.m g c.loop-m-test.true c.least_key-c.result c.least_key-c.ensures in
+    record {
+      known = k;
+      few = c.requires.0.few;
+      here = c.loop-m-test.true;
+      low = growing_bound c.args.n (lend c.args.widths.now c.args.guards.now) c.args.order.now (replicate 128 0) c.requires.0 c.requires.1 refl c.loop-m.order c.loop-m.need c.loop-m.m g c.loop-m-test.true c.least_key-c.result c.least_key-c.ensures;
+      thick = (c.requires.0.width _ k).0;
+      thin = (c.requires.0.width _ k).1;
+      wide = c.loop-m.invariant.0;
+      room = g.long ∙ c.requires.1;
+    } in
+    omega (arith, turn)
+
+pub offset_bounds-need-c : goal.offset_bounds-need-c
+offset_bounds-need-c c =
+    let so_far : Growing c.args.n (lend c.args.widths.now c.args.guards.now) c.args.order.now (replicate 128 0) c.loop-m.order c.loop-m.need c.loop-m.m = c.loop-m.invariant.1 (replicate 128 0) refl in
+    let turn : Turn c.args.n (at c.args.widths.now c.least_key-c.result) (at c.loop-m.need c.least_key-c.result) c.loop-m.m c.least_key-c.result (length c.loop-m.need) (length c.loop-m.order) = let g = so_far in
+    let k = growing_below c.args.n (lend c.args.widths.now c.args.guards.now) c.args.order.now (replicate 128 0) c.requires.0 c.requires.1 refl c.loop-m.order c.loop-m.need c.loop-m.m g c.loop-m-test.true c.least_key-c.result c.least_key-c.ensures in
+    record {
+      known = k;
+      few = c.requires.0.few;
+      here = c.loop-m-test.true;
+      low = growing_bound c.args.n (lend c.args.widths.now c.args.guards.now) c.args.order.now (replicate 128 0) c.requires.0 c.requires.1 refl c.loop-m.order c.loop-m.need c.loop-m.m g c.loop-m-test.true c.least_key-c.result c.least_key-c.ensures;
+      thick = (c.requires.0.width _ k).0;
+      thin = (c.requires.0.width _ k).1;
+      wide = c.loop-m.invariant.0;
+      room = g.long ∙ c.requires.1;
+    } in
+    omega (arith, turn)
+
+pub bounds-need-c : goal.bounds-need-c
+bounds-need-c c =
+    let so_far : Growing c.args.n (lend c.args.widths.now c.args.guards.now) c.args.order.now (replicate 128 0) c.loop-m.order c.loop-m.need c.loop-m.m = c.loop-m.invariant.1 (replicate 128 0) refl in
+    let turn : Turn c.args.n (at c.args.widths.now c.least_key-c.result) (at c.loop-m.need c.least_key-c.result) c.loop-m.m c.least_key-c.result (length c.loop-m.need) (length c.loop-m.order) = let g = so_far in
+    let k = growing_below c.args.n (lend c.args.widths.now c.args.guards.now) c.args.order.now (replicate 128 0) c.requires.0 c.requires.1 refl c.loop-m.order c.loop-m.need c.loop-m.m g c.loop-m-test.true c.least_key-c.result c.least_key-c.ensures in
+    record {
+      known = k;
+      few = c.requires.0.few;
+      here = c.loop-m-test.true;
+      low = growing_bound c.args.n (lend c.args.widths.now c.args.guards.now) c.args.order.now (replicate 128 0) c.requires.0 c.requires.1 refl c.loop-m.order c.loop-m.need c.loop-m.m g c.loop-m-test.true c.least_key-c.result c.least_key-c.ensures;
+      thick = (c.requires.0.width _ k).0;
+      thin = (c.requires.0.width _ k).1;
+      wide = c.loop-m.invariant.0;
+      room = g.long ∙ c.requires.1;
+    } in
+    omega (arith, turn)
+
+pub overflow_add-m : goal.overflow_add-m
+overflow_add-m c =
+    let so_far : Growing c.args.n (lend c.args.widths.now c.args.guards.now) c.args.order.now (replicate 128 0) c.loop-m.order c.loop-m.need c.loop-m.m = c.loop-m.invariant.1 (replicate 128 0) refl in
+    let turn : Turn c.args.n (at c.args.widths.now c.least_key-c.result) (at c.loop-m.need c.least_key-c.result) c.loop-m.m c.least_key-c.result (length c.loop-m.need) (length c.loop-m.order) = let g = so_far in
+    let k = growing_below c.args.n (lend c.args.widths.now c.args.guards.now) c.args.order.now (replicate 128 0) c.requires.0 c.requires.1 refl c.loop-m.order c.loop-m.need c.loop-m.m g c.loop-m-test.true c.least_key-c.result c.least_key-c.ensures in
+    record {
+      known = k;
+      few = c.requires.0.few;
+      here = c.loop-m-test.true;
+      low = growing_bound c.args.n (lend c.args.widths.now c.args.guards.now) c.args.order.now (replicate 128 0) c.requires.0 c.requires.1 refl c.loop-m.order c.loop-m.need c.loop-m.m g c.loop-m-test.true c.least_key-c.result c.least_key-c.ensures;
+      thick = (c.requires.0.width _ k).0;
+      thin = (c.requires.0.width _ k).1;
+      wide = c.loop-m.invariant.0;
+      room = g.long ∙ c.requires.1;
+    } in
+    omega (arith, turn)
+
+pub loop-m-smaller : goal.loop-m-smaller
+loop-m-smaller c =
+    let so_far : Growing c.args.n (lend c.args.widths.now c.args.guards.now) c.args.order.now (replicate 128 0) c.loop-m.order c.loop-m.need c.loop-m.m = c.loop-m.invariant.1 (replicate 128 0) refl in
+    let turn : Turn c.args.n (at c.args.widths.now c.least_key-c.result) (at c.loop-m.need c.least_key-c.result) c.loop-m.m c.least_key-c.result (length c.loop-m.need) (length c.loop-m.order) = let g = so_far in
+    let k = growing_below c.args.n (lend c.args.widths.now c.args.guards.now) c.args.order.now (replicate 128 0) c.requires.0 c.requires.1 refl c.loop-m.order c.loop-m.need c.loop-m.m g c.loop-m-test.true c.least_key-c.result c.least_key-c.ensures in
+    record {
+      known = k;
+      few = c.requires.0.few;
+      here = c.loop-m-test.true;
+      low = growing_bound c.args.n (lend c.args.widths.now c.args.guards.now) c.args.order.now (replicate 128 0) c.requires.0 c.requires.1 refl c.loop-m.order c.loop-m.need c.loop-m.m g c.loop-m-test.true c.least_key-c.result c.least_key-c.ensures;
+      thick = (c.requires.0.width _ k).0;
+      thin = (c.requires.0.width _ k).1;
+      wide = c.loop-m.invariant.0;
+      room = g.long ∙ c.requires.1;
+    } in
+    omega (arith, turn)
+
+pub loop-m-preserved : goal.loop-m-preserved
+loop-m-preserved c =
+    let so_far : Growing c.args.n (lend c.args.widths.now c.args.guards.now) c.args.order.now (replicate 128 0) c.loop-m.order c.loop-m.need c.loop-m.m = c.loop-m.invariant.1 (replicate 128 0) refl in
+    let turn : Turn c.args.n (at c.args.widths.now c.least_key-c.result) (at c.loop-m.need c.least_key-c.result) c.loop-m.m c.least_key-c.result (length c.loop-m.need) (length c.loop-m.order) = let g = so_far in
+    let k = growing_below c.args.n (lend c.args.widths.now c.args.guards.now) c.args.order.now (replicate 128 0) c.requires.0 c.requires.1 refl c.loop-m.order c.loop-m.need c.loop-m.m g c.loop-m-test.true c.least_key-c.result c.least_key-c.ensures in
+    record {
+      known = k;
+      few = c.requires.0.few;
+      here = c.loop-m-test.true;
+      low = growing_bound c.args.n (lend c.args.widths.now c.args.guards.now) c.args.order.now (replicate 128 0) c.requires.0 c.requires.1 refl c.loop-m.order c.loop-m.need c.loop-m.m g c.loop-m-test.true c.least_key-c.result c.least_key-c.ensures;
+      thick = (c.requires.0.width _ k).0;
+      thin = (c.requires.0.width _ k).1;
+      wide = c.loop-m.invariant.0;
+      room = g.long ∙ c.requires.1;
+    } in
+    (
+      update_set _ _ _ _ _ _ _ c.place.ensures.1 c.loop-m.invariant.0,
+      λ table l. growing_more c.args.n (lend c.args.widths.now c.args.guards.now) c.args.order.now table c.requires.0 c.requires.1 l c.loop-m.order c.loop-m.need c.loop-m.m (c.loop-m.invariant.1 table l) c.loop-m-test.true c.least_key-c.result c.least_key-c.ensures _ _ refl (omega (arith, turn)) c.place.ensures.1,
+    )
+
+pub shape_of-order : goal.shape_of-order
+shape_of-order c =
+    let so_far : Growing c.args.n (lend c.args.widths.now c.args.guards.now) c.args.order.now (replicate 128 0) c.loop-m.order c.loop-m.need c.loop-m.m = c.loop-m.invariant.1 (replicate 128 0) refl in
+    (so_far).long
+
+pub returns : goal.returns
+returns c = λ table l.
+    growing_last c.args.n (lend c.args.widths.now c.args.guards.now) c.args.order.now table c.requires.0 c.requires.1 l _ _ c.loop-m.m (c.loop-m.invariant.1 table l) c.loop-m-test.false

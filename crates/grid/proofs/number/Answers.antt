@@ -1,0 +1,7 @@
+use native.Mathlib.Omega.{arith}
+use Rattle.sheet_laws.specs.Grid.{number_low}
+use borrow.Author.Rules.{rules}
+use Rattle.grid.proofs.number.Goals as goal
+
+pub returns : goal.returns
+returns c = (number_low c.args.anchor c.args.start c.args.width, omega arith, omega arith)

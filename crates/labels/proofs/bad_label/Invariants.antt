@@ -1,0 +1,16 @@
+use Prim.Native.Nat.{ℕ, ◌+◌, ◌-◌, ◌≤◌, ◌<◌}
+use mathlib.Core.Path.{◌≡◌, sym, ◌∙◌}
+use native.Mathlib.Omega.{arith}
+use lib.ListN.{length}
+use Rattle.rules.specs.Tables.{label_byte}
+use Rattle.rules.specs.Writing.{label_of}
+use Rattle.sheet_laws.specs.Writes.{label_short, bad_empty, bad_byte, bad_not}
+use native.Mathlib.Decide.{dec_lt}
+use Rattle.labels.proofs.bad_label.Given as goal
+
+abbrev pub invariant-loop-j : goal.invariant-loop-j
+invariant-loop-j l =
+    (length (label_of l.labels l.k) ≤ l.j) × (l.j ≤ 8) × ((i : ℕ) → length (label_of l.labels l.k) ≤ i → i < l.j → label_byte l.labels l.k i ≡ 0)
+
+abbrev pub decreases-loop-j : goal.decreases-loop-j
+decreases-loop-j l = 8 - l.j

@@ -1,0 +1,14 @@
+use Prim.Native.Nat.{◌-◌, ◌^◌, ◌≤◌, ◌<◌}
+use mathlib.Core.Path.{◌≡◌}
+use native.Mathlib.Omega.{arith}
+use Rattle.rules.specs.Tables.{at}
+use Rattle.labels.specs.Keys.{pack, pack_none, pack_next, pack_room}
+use Rattle.text.specs.Says.{part}
+use Rattle.labels.proofs.Rows.{part_bytes}
+use Rattle.labels.proofs.label_key.Given as goal
+
+abbrev pub invariant-loop-j : goal.invariant-loop-j
+invariant-loop-j l = (l.key ≡ pack (8 - l.j) l.j (at (part l.text l.place l.end))) × (l.j ≤ 8)
+
+abbrev pub decreases-loop-j : goal.decreases-loop-j
+decreases-loop-j l = l.j

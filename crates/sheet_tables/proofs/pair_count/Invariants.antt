@@ -1,0 +1,15 @@
+use Prim.Native.Nat.{◌-◌, ◌*◌, ◌≤◌}
+use mathlib.Core.Path.{◌≡◌, refl}
+use mathlib.Core.Bool.{cond}
+use native.Mathlib.Omega.{arith}
+use Rattle.rules.specs.Tables.{at}
+use Rattle.rules.specs.Scan.{sum}
+use Rattle.rules.specs.Writing.{is_pair, pairs}
+use Rattle.table_laws.specs.Scans.{sum_suc}
+use Rattle.sheet_tables.proofs.pair_count.Given as goal
+
+abbrev pub invariant-loop-i : goal.invariant-loop-i
+invariant-loop-i l = (l.count ≡ sum (λ k. sum (λ j. cond (is_pair l.guards k j) 1 0) l.n) l.i) × (l.i ≤ l.n) × (l.count ≤ 128 * l.i)
+
+abbrev pub decreases-loop-i : goal.decreases-loop-i
+decreases-loop-i l = l.n - l.i

@@ -1,0 +1,17 @@
+use Prim.Native.Nat.{ℕ, ◌+◌, ◌-◌, ◌≤◌, ◌<◌}
+use mathlib.Core.Path.{◌≡◌, sym, ap}
+use mathlib.Core.Bool.{Bool, true, false, cond}
+use native.Mathlib.Omega.{arith}
+use lib.Dec.{ltb}
+use Rattle.rules.specs.Tables.{at, cell}
+use Rattle.rules.specs.Scan.{sum}
+use Rattle.rules.specs.Writing.{is_pair}
+use Rattle.sheet_laws.specs.Writes.{pair_test, pairs_before}
+use Rattle.table_laws.specs.Scans.{sum_suc}
+use Rattle.sheet_tables.proofs.row_pairs.Given as goal
+
+abbrev pub invariant-loop-j : goal.invariant-loop-j
+invariant-loop-j l = (l.count ≡ sum (λ k. cond (is_pair l.guards l.i k) 1 0) l.j) × (l.i < l.j) × (l.j ≤ l.n) × (l.count ≤ l.j)
+
+abbrev pub decreases-loop-j : goal.decreases-loop-j
+decreases-loop-j l = l.n - l.j
