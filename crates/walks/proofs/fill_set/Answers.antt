@@ -1,0 +1,61 @@
+use native.Mathlib.Omega.{arith}
+use Prim.Native.Nat.{◌+◌, ◌-◌, ◌*◌, ◌≤◌, ◌<◌}
+use mathlib.Core.Path.{◌≡◌, refl, ◌∙◌}
+use lib.ListN.{length, length-set}
+use Rattle.walks.specs.Sets.{power, shifted, power_most, power_next, shifted_next, own_le}
+use Rattle.walks.specs.Square.{guard_in}
+use Rattle.walks.specs.Filled.{Filled, filled_more, filled_set}
+use Rattle.walks.proofs.fill_set.Goals as goal
+
+pub loop-j-init : goal.loop-j-init
+unfolding power shifted
+loop-j-init c = (omega arith, (refl, (refl, (refl, c.requires.1.1.1))))
+
+pub least_from-requires : goal.least_from-requires
+least_from-requires c =
+    let turn : (c.args.s < 256) × (8 * c.args.s + 8 ≤ length c.loop-j.walks) = (omega (arith, power_most c.args.k c.requires.0), omega (arith, c.loop-j.invariant.1.1.1.0)) in
+    let t = turn in
+    (t.0, (t.1, own_le c.args.s c.loop-j.j c.loop-j.own c.loop-j.cut c.loop-j.invariant.1.0 c.loop-j.invariant.1.1.0))
+
+pub overflow_mul-walks : goal.overflow_mul-walks
+overflow_mul-walks c =
+    let turn : (c.args.s < 256) × (8 * c.args.s + 8 ≤ length c.loop-j.walks) = (omega (arith, power_most c.args.k c.requires.0), omega (arith, c.loop-j.invariant.1.1.1.0)) in
+    omega (arith, turn)
+
+pub overflow_add-walks : goal.overflow_add-walks
+overflow_add-walks c =
+    let turn : (c.args.s < 256) × (8 * c.args.s + 8 ≤ length c.loop-j.walks) = (omega (arith, power_most c.args.k c.requires.0), omega (arith, c.loop-j.invariant.1.1.1.0)) in
+    omega (arith, turn)
+
+pub bounds-walks-s : goal.bounds-walks-s
+bounds-walks-s c =
+    let turn : (c.args.s < 256) × (8 * c.args.s + 8 ≤ length c.loop-j.walks) = (omega (arith, power_most c.args.k c.requires.0), omega (arith, c.loop-j.invariant.1.1.1.0)) in
+    omega (arith, turn)
+
+pub overflow_add-own : goal.overflow_add-own
+overflow_add-own c = omega (arith, c.loop-j.invariant.1.0, power_most c.loop-j.j (omega arith))
+
+pub loop-j-preserved : goal.loop-j-preserved
+loop-j-preserved c =
+    let turn : (c.args.s < 256) × (8 * c.args.s + 8 ≤ length c.loop-j.walks) = (omega (arith, power_most c.args.k c.requires.0), omega (arith, c.loop-j.invariant.1.1.1.0)) in
+    (
+      omega arith,
+      (
+        power_next c.loop-j.j c.loop-j.own c.loop-j.invariant.1.0,
+        (
+          shifted_next c.args.s c.loop-j.j c.loop-j.cut c.loop-j.invariant.1.1.0,
+          (
+            length-set c.loop-j.walks _ _ ∙ c.loop-j.invariant.1.1.1.0,
+            filled_more (guard_in c.args.square.now) c.args.k c.args.s c.loop-j.j _ c.loop-j.walks _ c.loop-j.invariant.1.1.1.1 (omega arith) (omega arith) (turn).1 (λ i h. refl) c.loop-j.own c.loop-j.cut c.loop-j.invariant.1.0 c.loop-j.invariant.1.1.0 c.least_from.ensures,
+          ),
+        ),
+      ),
+    )
+
+pub shape_of-walks : goal.shape_of-walks
+shape_of-walks c = c.loop-j.invariant.1.1.1.0
+
+pub returns : goal.returns
+returns c =
+    let e : c.loop-j.j ≡ c.args.k = omega arith in
+    (c.loop-j.invariant.1.1.1.0, filled_set (guard_in c.args.square.now) c.args.k c.args.s c.loop-j.walks (rw e at c.loop-j.invariant.1.1.1.1) (omega arith) (omega arith))

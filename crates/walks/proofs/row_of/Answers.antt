@@ -1,0 +1,44 @@
+use native.Mathlib.Omega.{arith}
+use borrow.Author.Rules.{rules}
+use Prim.Native.Nat.{◌+◌, ◌-◌, ◌*◌, ◌≤◌, ◌<◌}
+use mathlib.Core.Path.{refl}
+use lib.ListN.{length, replicate}
+use Rattle.rules.specs.Tables.{at}
+use Rattle.table_laws.specs.Updates.{Updated, update_none, update_more}
+use Rattle.walks.proofs.row_of.Goals as goal
+
+pub overflow_cast-from : goal.overflow_cast-from
+overflow_cast-from c = omega (arith, c.shared_slice_known-1.given c.args.p)
+
+pub loop-q-init : goal.loop-q-init
+loop-q-init c = (omega arith, update_none _ _)
+
+pub overflow_cast-to : goal.overflow_cast-to
+overflow_cast-to c = omega (arith, c.shared_slice_known-in-loop-q-1.given c.loop-q.q)
+
+pub overflow_mul-row : goal.overflow_mul-row
+overflow_mul-row c =
+    let from_lt : at c.args.list.now c.args.p < 128 = c.requires.1.1.1 c.args.p c.requires.1.1.0 in
+    omega (arith, from_lt)
+
+pub overflow_add-row : goal.overflow_add-row
+overflow_add-row c =
+    let from_lt : at c.args.list.now c.args.p < 128 = c.requires.1.1.1 c.args.p c.requires.1.1.0 in
+    let to_lt : at c.args.list.now c.loop-q.q < 128 = c.requires.1.1.1 c.loop-q.q (omega arith) in
+    omega (arith, from_lt, to_lt)
+
+pub bounds-guards-from : goal.bounds-guards-from
+bounds-guards-from c =
+    let from_lt : at c.args.list.now c.args.p < 128 = c.requires.1.1.1 c.args.p c.requires.1.1.0 in
+    let to_lt : at c.args.list.now c.loop-q.q < 128 = c.requires.1.1.1 c.loop-q.q (omega arith) in
+    omega (arith, from_lt, to_lt)
+
+pub bounds-row-q : goal.bounds-row-q
+bounds-row-q c = omega (arith, c.loop-q.invariant.1.long)
+
+pub loop-q-preserved : goal.loop-q-preserved
+loop-q-preserved c =
+    (omega arith, update_more _ _ c.loop-q.row c.loop-q.q _ c.loop-q.invariant.1 (omega arith) refl)
+
+pub returns : goal.returns
+returns c = record { guard = λ q h. c.loop-q.invariant.1.done q (omega arith) }
