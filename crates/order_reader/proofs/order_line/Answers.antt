@@ -1,0 +1,72 @@
+use mathlib.Core.List.{[], ◌∷◌}
+use Rattle.rules.specs.Text.{then}
+use Rattle.rules.specs.Grid.{order_line}
+use Rattle.text.specs.Says.{LabelIs, WordIs, SignedIs, LastIs}
+use Rattle.text.specs.declared.Next.TheVariants.{At, Missing}
+use Rattle.text.specs.declared.Amount.TheVariants.{Is, Unread}
+use borrow.Author.Rules.{rules}
+use Rattle.order_reader.proofs.order_line.Goals as goal
+
+pub returns-in_default : goal.returns-in_default
+unfolding order_line then
+returns-in_default c =
+    let z : LabelIs c.args.text.now c.args.place Missing = rw c.in_default.is at c.label.ensures in
+    rw z
+
+pub word-requires : goal.word-requires
+word-requires c =
+    let at_e : LabelIs c.args.text.now c.args.place (At c.in-At.e) = rw c.in-At.is at c.label.ensures in
+    (at_e).3
+
+pub returns-in_default-word : goal.returns-in_default-word
+unfolding order_line then
+returns-in_default-word c =
+    let at_e : LabelIs c.args.text.now c.args.place (At c.in-At.e) = rw c.in-At.is at c.label.ensures in
+    let e = at_e in
+    let z : WordIs c.args.text.now c.in-At.e (32 ∷ []) Missing = rw c.in_default-word.is at c.word.ensures in
+    rw (e.0, z)
+
+pub signed-requires : goal.signed-requires
+signed-requires c =
+    let at_f : WordIs c.args.text.now c.in-At.e (32 ∷ []) (At c.in-At-word.f) = rw c.in-At-word.is at c.word.ensures in
+    (at_f).1
+
+pub returns-in_default-signed : goal.returns-in_default-signed
+unfolding order_line then
+returns-in_default-signed c =
+    let at_e : LabelIs c.args.text.now c.args.place (At c.in-At.e) = rw c.in-At.is at c.label.ensures in
+    let at_f : WordIs c.args.text.now c.in-At.e (32 ∷ []) (At c.in-At-word.f) = rw c.in-At-word.is at c.word.ensures in
+    let e = at_e in
+    let f = at_f in
+    let z : SignedIs c.args.text.now c.in-At-word.f Unread = rw c.in_default-signed.is at c.signed.ensures in
+    rw (e.0, f.0, z)
+
+pub last_field-requires : goal.last_field-requires
+last_field-requires c =
+    let at_n : SignedIs c.args.text.now c.in-At-word.f (Is c.in-Is.n c.in-Is.g) = rw c.in-Is.is at c.signed.ensures in
+    (at_n).2
+
+pub returns-in_default-last_field : goal.returns-in_default-last_field
+unfolding order_line then
+returns-in_default-last_field c =
+    let at_e : LabelIs c.args.text.now c.args.place (At c.in-At.e) = rw c.in-At.is at c.label.ensures in
+    let at_f : WordIs c.args.text.now c.in-At.e (32 ∷ []) (At c.in-At-word.f) = rw c.in-At-word.is at c.word.ensures in
+    let at_n : SignedIs c.args.text.now c.in-At-word.f (Is c.in-Is.n c.in-Is.g) = rw c.in-Is.is at c.signed.ensures in
+    let e = at_e in
+    let f = at_f in
+    let n = at_n in
+    let z : LastIs c.args.text.now c.in-Is.g Unread = rw c.in_default-last_field.is at c.last_field.ensures in
+    rw (e.0, f.0, n.0, z)
+
+pub returns : goal.returns
+unfolding order_line then
+returns c =
+    let at_e : LabelIs c.args.text.now c.args.place (At c.in-At.e) = rw c.in-At.is at c.label.ensures in
+    let at_f : WordIs c.args.text.now c.in-At.e (32 ∷ []) (At c.in-At-word.f) = rw c.in-At-word.is at c.word.ensures in
+    let at_n : SignedIs c.args.text.now c.in-At-word.f (Is c.in-Is.n c.in-Is.g) = rw c.in-Is.is at c.signed.ensures in
+    let at_m : LastIs c.args.text.now c.in-Is.g (Is c.in-Is-last_field.m c.in-Is-last_field.next) = rw c.in-Is-last_field.is at c.last_field.ensures in
+    let e = at_e in
+    let f = at_f in
+    let n = at_n in
+    let m = at_m in
+    (rw (e.0, f.0, n.0, m.0), e.1, e.3, n.1, m.2)

@@ -1,0 +1,20 @@
+use Prim.Native.Nat.{◌-◌, ◌≤◌}
+use mathlib.Core.Path.{◌≡◌, refl, sym, ◌∙◌}
+use native.Mathlib.Omega.{arith}
+use native.Mathlib.Nat.{sub-zero}
+use borrow.Author.Rules.{rules}
+use lib.ListN.{length, drop}
+use Rattle.rules.specs.Sheet.{lines}
+use Rattle.rules.specs.Grid.{order_step}
+use Rattle.lines.specs.Says.{StepIs, StepWithin}
+use Rattle.lines.specs.declared.Step.TheVariants.{On, Refused}
+use Rattle.sheet_laws.specs.Lines.{lines_step, lines_halt, lines_end}
+use Rattle.sheet_laws.specs.Grid.{lowered}
+use Rattle.order_reader.proofs.order_lines.Given as goal
+
+abbrev pub invariant-loop-k : goal.invariant-loop-k
+invariant-loop-k l =
+    (lines (order_step (lowered l.anchor) l.labels l.widths) 2 (l.n - l.k) l.k l.starts (drop l.i l.text) ≡ lines (order_step (lowered l.anchor) l.labels l.widths) 2 l.n 0 l.initial.starts (drop l.place l.text)) × (l.k ≤ l.n) × (l.i ≤ length l.text) × (length l.starts ≡ length l.initial.starts)
+
+abbrev pub decreases-loop-k : goal.decreases-loop-k
+decreases-loop-k l = l.n - l.k

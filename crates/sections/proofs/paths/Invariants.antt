@@ -1,0 +1,19 @@
+use Prim.Native.Nat.{ℕ, ◌-◌, ◌≤◌}
+use mathlib.Core.Path.{◌≡◌, refl, sym, ◌∙◌}
+use mathlib.Core.List.{List}
+use native.Mathlib.Omega.{arith}
+use native.Mathlib.Nat.{sub-zero}
+use borrow.Author.Rules.{rules}
+use lib.ListN.{length, drop}
+use Rattle.rules.specs.Sheet.{lines, path_step}
+use Rattle.lines.specs.Says.{StepIs, StepWithin}
+use Rattle.lines.specs.declared.Step.TheVariants.{On, Refused}
+use Rattle.sheet_laws.specs.Lines.{lines_step, lines_halt, lines_end}
+use Rattle.sections.proofs.paths.Given as goal
+
+abbrev pub invariant-loop-k : goal.invariant-loop-k
+invariant-loop-k l =
+    (lines path_step 2 (l.n - l.k) l.k (l.labels, l.widths) (drop l.i l.text) ≡ lines path_step 2 l.n 0 (l.initial.labels, l.initial.widths) (drop l.place l.text)) × (l.k ≤ l.n) × (l.i ≤ length l.text) × (length l.labels ≡ length l.initial.labels) × (length l.widths ≡ length l.initial.widths)
+
+abbrev pub decreases-loop-k : goal.decreases-loop-k
+decreases-loop-k l = l.n - l.k
