@@ -1,5 +1,6 @@
 // An inner crate of the ask program (RULES 26): the answers on a sheet that was read.
 #![tactic(auto)]
+
 ghost use Rattle.std.specs.Prelude.{◌≡◌, ◌≤◌, ◌<◌, length};
 ghost use Rattle.rules.specs.Tables.{lend};
 ghost use Rattle.rules.specs.Asking.{why_text, judge_text, ordered_text};

@@ -1,6 +1,7 @@
 // An inner crate of the ask program (RULES 26): from its arguments and an input, a sheet with a plan, to what is
 // printed.
 #![tactic(auto)]
+
 ghost use Rattle.std.specs.Prelude.{◌≡◌, ◌≤◌, length};
 ghost use Rattle.rules.specs.Program.{refusal_text, on_sheet};
 ghost use Rattle.rules.specs.Asking.{asked};

@@ -1,5 +1,6 @@
 // For the speed table alone: the packing with no tests, under an exported name.
 #![tactic(auto)]
+
 ghost use Rattle.std.specs.Prelude.{◌≡◌};
 ghost use Rattle.rules.specs.Tables.{at, lend};
 ghost use Rattle.rules.specs.Plan.{net_of, highest};

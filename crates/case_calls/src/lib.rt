@@ -1,6 +1,7 @@
 // An inner crate of the test program `figures`: the call of a case made, and what it leaves printed. Only
 // safety is proved.
 #![tactic(auto)]
+
 use cases::fields::{has, number};
 use cases::show;
 

@@ -2,5 +2,6 @@
 // what does not stand in a line, or does not fit, counts as its usual value. The notation is explained at the
 // head of crates/figures/stdin.
 #![tactic(auto)]
+
 pub mod fields;
 pub mod show;

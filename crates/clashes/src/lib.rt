@@ -1,6 +1,7 @@
 // An inner crate: the test 8, of a plan whose other tests have found no fault, with how many slots short the
 // pair is.
 #![tactic(auto)]
+
 ghost use Rattle.std.specs.Prelude.{◌≡◌, true, false, ℕ, ◌+◌, ◌-◌, ◌≤◌, ◌<◌};
 ghost use Rattle.rules.specs.Tables.{at, cell, lend};
 ghost use Rattle.rules.specs.Limits.{Network, Starts};

@@ -1,5 +1,6 @@
 // An inner crate: the list of the floor, its test and its value, for the calls of planning.
 #![tactic(auto)]
+
 ghost use Rattle.std.specs.Prelude.{◌≡◌, ℕ, ◌+◌, ◌≤◌, ◌<◌, length};
 ghost use Rattle.rules.specs.Tables.{at, cell, Lent, lend};
 ghost use Rattle.rules.specs.Scan.{found, sum};

@@ -5,6 +5,7 @@
 // bytes that came are those of the input, each once and in order, and that those handed to `write` arrive, is
 // only seen by running a program (examples/check).
 #![tactic(auto)]
+
 ghost use Rattle.std.specs.Prelude.{◌≤◌, ◌<◌, length};
 ghost use Rattle.rules.specs.Program.{refusal_text};
 ghost use Rattle.spelling.specs.Says.{Wrote};

@@ -3,6 +3,7 @@
 // of each table that the call may write. What it has to print stands in `stdout`, and was not made by the
 // code under test. The notation is explained at the head of `stdin`.
 #![tactic(auto)]
+
 use cases::fields::{lent, number, numbers};
 use cases::{fields, show};
 use libc::STDIN_FILENO;

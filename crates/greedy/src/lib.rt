@@ -1,6 +1,7 @@
 // An inner crate: the greedy order, for planning. Each next path is the one whose start would be lowest if
 // the order so far were packed.
 #![tactic(auto)]
+
 ghost use Rattle.std.specs.Prelude.{◌≡◌, List, ℕ, length};
 ghost use Rattle.rules.specs.Tables.{lend};
 ghost use Rattle.rules.specs.Plan.{net_of};

@@ -2,6 +2,7 @@
 // `centre_number`. Signed numbers stand in these calls alone: behind them a number is counted from -100,000, as `text`
 // reads it.
 #![tactic(auto)]
+
 ghost use Rattle.std.specs.Prelude.{◌≡◌, ◌≤◌, ◌<◌, pos};
 ghost use Rattle.rules.specs.Grid.{grid_number, grid_start, quarters};
 ghost use Rattle.rules.specs.Numbers.{anchor_fault};

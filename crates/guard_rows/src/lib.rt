@@ -1,6 +1,7 @@
 // An inner crate: the tests of a guard table's rows, 4 and 5. A row is tested with no branch on a cell, so
 // that the compiler makes vector code of it; the first cell at fault is looked for only in a row that has one.
 #![tactic(auto)]
+
 ghost use Rattle.std.specs.Prelude.{◌≡◌, false, not, ◌||◌, ◌&&◌, ℕ, ◌≤◌, ◌<◌, max, ltb, eqb, length};
 ghost use Rattle.rules.specs.Tables.{at, cell};
 ghost use Rattle.rules.specs.Scan.{first};

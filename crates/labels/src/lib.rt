@@ -1,6 +1,7 @@
 // An inner crate, for the readers and writers of sheets: the table of labels, eight bytes a path, and the
 // keys that labels are compared by.
 #![tactic(auto)]
+
 ghost use Rattle.std.specs.Prelude.{◌≡◌, false, ◌+◌, ◌*◌, ◌≤◌, ◌<◌, min, length, eqb};
 ghost use Rattle.rules.specs.Tables.{at};
 ghost use Rattle.rules.specs.Scan.{first};

@@ -1,6 +1,7 @@
 // An inner crate, for the readers of sheets: what each line of a sheet means, over the tables that it is
 // read into.
 #![tactic(auto)]
+
 ghost use Rattle.std.specs.Prelude.{◌≡◌, ◌+◌, ◌*◌, ◌≤◌, ◌<◌, length, drop};
 ghost use Rattle.rules.specs.Numbers.{outside};
 ghost use Rattle.rules.specs.Sheet.{path_step, guard_step, start_step};

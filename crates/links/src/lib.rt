@@ -1,6 +1,7 @@
 // An inner crate: the link of a path (RULES 25). The paths are filed by the slot after their end, and a path
 // that holds another up is looked for in one file alone.
 #![tactic(auto)]
+
 ghost use Rattle.std.specs.Prelude.{◌≡◌, cond, ◌&&◌, ℕ, ◌+◌, ◌≤◌, ◌<◌, length, ltb, eqb};
 ghost use Rattle.rules.specs.Tables.{at, cleared, lend};
 ghost use Rattle.rules.specs.Limits.{Network, Starts};

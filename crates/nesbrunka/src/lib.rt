@@ -1,6 +1,7 @@
 // The library's C face: each call under its exported name, with the promise of the call itself. In C a
 // slice is a pointer and then a length.
 #![tactic(auto)]
+
 ghost use Rattle.std.specs.Prelude.{◌≡◌};
 ghost use Rattle.rules.specs.Tables.{lend};
 ghost use Rattle.rules.specs.Calls.{left, judging, packing, pressing, explaining, siding, improving, planning, flooring, reading, writing, centring, centre_number, order_writing, order_reading};

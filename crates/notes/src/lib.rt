@@ -1,5 +1,6 @@
 // An inner crate of the plan program: the line that `--verbose` adds on standard error.
 #![tactic(auto)]
+
 ghost use Rattle.std.specs.Prelude.{◌≡◌, ◌+◌, ◌≤◌, min, length, eqb};
 ghost use Rattle.rules.specs.Tables.{cleared, lend};
 ghost use Rattle.rules.specs.Writing.{pairs};

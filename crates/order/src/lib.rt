@@ -1,5 +1,6 @@
 // The order sheet's two public calls (RULES 27): `order_write` and `order_read`. Nothing is asked of the caller.
 #![tactic(auto)]
+
 ghost use Rattle.std.specs.Prelude.{◌≡◌, length};
 ghost use Rattle.rules.specs.Tables.{lend};
 ghost use Rattle.rules.specs.Numbers.{order_read_fault};

@@ -1,5 +1,6 @@
 // An inner crate, for `order`: an order sheet read into a table of starts (RULES 27).
 #![tactic(auto)]
+
 ghost use Rattle.std.specs.Prelude.{◌≡◌, ◌+◌, ◌*◌, ◌≤◌, ◌<◌, length, drop};
 ghost use Rattle.rules.specs.Sheet.{lines};
 ghost use Rattle.rules.specs.Grid.{order_step, order_from};

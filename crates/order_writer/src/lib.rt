@@ -1,6 +1,7 @@
 // An inner crate, for `order`: an order sheet written from tables that were tested, and its length, which is known
 // before the first byte is written (RULES 27).
 #![tactic(auto)]
+
 ghost use Rattle.std.specs.Prelude.{◌≡◌, ◌+◌, ◌*◌, ◌≤◌, ◌<◌, length};
 ghost use Rattle.rules.specs.Tables.{at};
 ghost use Rattle.rules.specs.Writing.{join_from};

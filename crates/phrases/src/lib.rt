@@ -2,6 +2,7 @@
 // put into a text. Each function says how many bytes it puts at the most, so that the program knows beforehand
 // that the room is enough.
 #![tactic(auto)]
+
 ghost use Rattle.std.specs.Prelude.{◌≡◌, ◌++◌, ◌+◌, ◌*◌, ◌≤◌, ◌<◌, length};
 ghost use Rattle.rules.specs.Text.{numeral};
 ghost use Rattle.rules.specs.Writing.{label_of};

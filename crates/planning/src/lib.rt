@@ -2,6 +2,7 @@
 // of RULES 18, and has one promise: what it leaves behind is what the definition of its name in `rules`
 // says. Every `pub fn` here is a call.
 #![tactic(auto)]
+
 ghost use Rattle.std.specs.Prelude.{◌≡◌};
 ghost use Rattle.rules.specs.Tables.{lend};
 ghost use Rattle.rules.specs.Limits.{KeptFrom};

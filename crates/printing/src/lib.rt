@@ -1,5 +1,6 @@
 // An inner crate of the plan program: from an input to what is printed, and to the line that `--verbose` adds.
 #![tactic(auto)]
+
 ghost use Rattle.std.specs.Prelude.{◌≡◌, ◌≤◌, length, take};
 ghost use Rattle.rules.specs.Tables.{lend};
 ghost use Rattle.rules.specs.Program.{planned_text, printed};

@@ -1,6 +1,7 @@
 // An inner crate of the ask program (RULES 26): what its arguments ask for, the path that a label names, and the
 // highest slot of a plan.
 #![tactic(auto)]
+
 ghost use Rattle.std.specs.Prelude.{◌≡◌, true, false, List, [], ℕ, ◌≤◌, ◌<◌, length};
 ghost use Rattle.rules.specs.Tables.{at, lend};
 ghost use Rattle.rules.specs.Plan.{net_of, highest};

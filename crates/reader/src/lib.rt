@@ -1,5 +1,6 @@
 // An inner crate, for `sheet`: a sheet read into tables of the right sizes.
 #![tactic(auto)]
+
 ghost use Rattle.std.specs.Prelude.{◌≡◌, length};
 ghost use Rattle.rules.specs.Tables.{cleared, lend, cleared_network};
 ghost use Rattle.rules.specs.Sheet.{sheet_from};

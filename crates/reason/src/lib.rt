@@ -2,6 +2,7 @@
 // how many slots the last of them can come down. `why` is a call: it is lent its tables, tests them in the order
 // of RULES 18, and leaves behind what `explaining` in `rules` says.
 #![tactic(auto)]
+
 ghost use Rattle.std.specs.Prelude.{◌≡◌, cond, List, ◌++◌, ℕ, ◌+◌, ◌-◌, ◌≤◌, ◌<◌, length, drop, ltb};
 ghost use Rattle.rules.specs.Tables.{at, lend};
 ghost use Rattle.rules.specs.Limits.{Network, Starts};

@@ -1,6 +1,7 @@
 // An inner crate of the ask program: a reason (RULES 25) told in lines (RULES 26), put into a text. It says where a
 // path stands, each link of the chain below it, and where the chain ends.
 #![tactic(auto)]
+
 ghost use Rattle.std.specs.Prelude.{◌≡◌, [], ℕ, ◌+◌, ◌-◌, ◌*◌, ◌≤◌, ◌<◌, length};
 ghost use Rattle.rules.specs.Tables.{at, lend};
 ghost use Rattle.rules.specs.Plan.{net_of};

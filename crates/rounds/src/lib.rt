@@ -1,5 +1,6 @@
 // An inner crate: the rounds of improving, for the calls of planning.
 #![tactic(auto)]
+
 mod draws;
 
 ghost use Rattle.std.specs.Prelude.{◌≡◌, ℕ, ◌<◌, ◌≤◌, List, length};

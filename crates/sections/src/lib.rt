@@ -1,6 +1,7 @@
 // An inner crate, for the readers of sheets: the lines of a section one after the other, and the first of
 // them at fault.
 #![tactic(auto)]
+
 ghost use Rattle.std.specs.Prelude.{◌≡◌, ◌+◌, ◌≤◌, length, drop};
 ghost use Rattle.rules.specs.Sheet.{lines, path_step, guard_step, start_step};
 ghost use Rattle.sections.specs.Says.{SectionIs, PartWithin};

@@ -1,5 +1,6 @@
 // The sheet's two public calls: `read`, and `write`. Nothing is asked of the caller.
 #![tactic(auto)]
+
 ghost use Rattle.std.specs.Prelude.{◌≡◌};
 ghost use Rattle.rules.specs.Tables.{lend};
 ghost use Rattle.rules.specs.Calls.{left, reading, writing};

@@ -1,5 +1,6 @@
 // An inner crate, for `sheet` and `order`: the tables of a sheet, tested and counted. Each scan goes from the lowest index.
 #![tactic(auto)]
+
 ghost use Rattle.std.specs.Prelude.{◌≡◌, false, cond, ℕ, ◌≤◌, ◌<◌, length, ltb};
 ghost use Rattle.rules.specs.Tables.{lend};
 ghost use Rattle.rules.specs.Scan.{sum};

@@ -2,6 +2,7 @@
 // number, line, n, and a checksum of each of the four tables. What it has to print stands in `stdout`, and
 // was not made by the code under test.
 #![tactic(auto)]
+
 ghost use Rattle.std.specs.Prelude.{◌≤◌, ◌<◌, length};
 
 use libc::{STDIN_FILENO, STDOUT_FILENO};

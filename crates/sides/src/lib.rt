@@ -2,6 +2,7 @@
 // with no recursion. The marks depend on the guards alone, which are all that these functions are lent:
 // what they promise holds for every network of these guards.
 #![tactic(auto)]
+
 ghost use Rattle.std.specs.Prelude.{◌≡◌, cond, not, ◌&&◌, List, ℕ, ◌+◌, ◌≤◌, ◌<◌, ltb, eqb, length, set};
 ghost use Rattle.rules.specs.Tables.{at, cleared, Lent};
 ghost use Rattle.rules.specs.Scan.{first, found};

@@ -1,6 +1,7 @@
 // An inner crate, for the writers of sheets: the fields of a line and the lines that they make, put into a
 // text, and how long they are.
 #![tactic(auto)]
+
 ghost use Rattle.std.specs.Prelude.{◌≡◌, ◌++◌, ◌+◌, ◌*◌, ◌≤◌, ◌<◌, length, set};
 ghost use Rattle.rules.specs.Text.{numeral, signed_numeral, space, line_feed};
 ghost use Rattle.rules.specs.Writing.{label_of, count_text, path_text, guard_text};

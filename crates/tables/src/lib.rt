@@ -1,6 +1,7 @@
 // An inner crate: the tests of lent tables, each once, for every call. Each scan goes from the lowest
 // index, by i then j, and cells of index n or more are never tested. A square is tested by rows (`guard_rows`).
 #![tactic(auto)]
+
 ghost use Rattle.std.specs.Prelude.{◌≡◌, not, ◌||◌, ℕ, ◌≤◌, eqb, length, List};
 ghost use Rattle.rules.specs.Tables.{at, lend};
 ghost use Rattle.rules.specs.Numbers.{fault, no_fault, refuse_if, scan, square, nowhere_short, outside, count_fault, network_sizes, plan_sizes, order_fault, start_fault, network_fault, lent_fault, pack_fault};

@@ -1,6 +1,7 @@
 // An inner crate, for the readers of sheets: the fields of a line, and the lines that they make.
 // A text is its bytes, and a place in it stands for the text from there on.
 #![tactic(auto)]
+
 ghost use Rattle.std.specs.Prelude.{◌≡◌, ◌+◌, ◌-◌, ◌≤◌, ◌<◌, length, drop};
 ghost use Rattle.rules.specs.Text.{none, word, hyphen, run, is_digit, value_from};
 ghost use Rattle.text.specs.Says.{class_of, WordIs, LabelIs, NumberIs, SignedIs, LastIs, CountIs, PathLineIs};

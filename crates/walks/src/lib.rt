@@ -5,6 +5,7 @@
 // a number, bit j being position j; a table of walks has 8 cells for each set, one for each position at which
 // a walk may begin.
 #![tactic(auto)]
+
 ghost use Rattle.std.specs.Prelude.{◌≡◌, ℕ, suc, ◌+◌, ◌-◌, ◌*◌, ◌/◌, ◌%◌, ◌≤◌, ◌<◌, min, length};
 ghost use Rattle.rules.specs.Tables.{at, cleared};
 ghost use Rattle.rules.specs.Floor.{shortest as shortestWalk};

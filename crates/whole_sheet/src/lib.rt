@@ -1,5 +1,6 @@
 // An inner crate, for `reader`: the sections of a sheet in their fixed order, each after its count.
 #![tactic(auto)]
+
 ghost use Rattle.std.specs.Prelude.{◌≡◌, ◌≤◌, length, drop};
 ghost use Rattle.rules.specs.Tables.{lend};
 ghost use Rattle.rules.specs.Sheet.{starts_part, guards_part, sheet_from};

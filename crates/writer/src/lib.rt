@@ -1,6 +1,7 @@
 // An inner crate, for `sheet`: a sheet written from tables that were tested, and its length, which is known
 // before the first byte is written.
 #![tactic(auto)]
+
 ghost use Rattle.std.specs.Prelude.{◌≡◌, ◌+◌, ◌*◌, ◌≤◌, ◌<◌, length};
 ghost use Rattle.rules.specs.Tables.{lend};
 ghost use Rattle.rules.specs.Writing.{join_from, path_text, guard_text, starts_text, sheet_text};

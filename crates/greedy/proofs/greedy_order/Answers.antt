@@ -200,8 +200,7 @@ loop-m-preserved c =
       thin = (c.requires.0.width _ k).1;
       wide = c.loop-m.invariant.0;
       room = g.long ∙ c.requires.1;
-    } in
-    (
+    } in (
       update_set _ _ _ _ _ _ _ c.place.ensures.1 c.loop-m.invariant.0,
       λ table l. growing_more c.args.n (lend c.args.widths.now c.args.guards.now) c.args.order.now table c.requires.0 c.requires.1 l c.loop-m.order c.loop-m.need c.loop-m.m (c.loop-m.invariant.1 table l) c.loop-m-test.true c.least_key-c.result c.least_key-c.ensures _ _ refl (omega (arith, turn)) c.place.ensures.1,
     )

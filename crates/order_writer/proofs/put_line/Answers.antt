@@ -29,20 +29,18 @@ put_word-q-requires c =
 pub put_signed-e-requires : goal.put_signed-e-requires
 put_signed-e-requires c =
     let whole : length (order_line_text (lowered c.args.anchor) c.args.labels.now c.args.widths.now c.args.starts.now c.args.k) ≡ length (label_of c.args.labels.now c.args.k) + length (signed_numeral (lowered c.line_number-n.result)) + length (numeral (at c.args.widths.now c.args.k)) + 3 = let e = ap (λ (z : ℤ). length (signed_numeral z)) c.line_number-n.ensures.0 in
-    omega (arith, order_line_length (lowered c.args.anchor) c.args.labels.now c.args.widths.now c.args.starts.now c.args.k, e) in
-    (
-  c.line_number-n.ensures.1,
-  c.line_number-n.ensures.2,
-  omega (arith, whole, c.requires.1, c.put_label-p.ensures.0, c.put_label-p.auto, c.put_word-q.ensures.0, c.put_word-q.auto),
+    omega (arith, order_line_length (lowered c.args.anchor) c.args.labels.now c.args.widths.now c.args.starts.now c.args.k, e) in (
+      c.line_number-n.ensures.1,
+      c.line_number-n.ensures.2,
+      omega (arith, whole, c.requires.1, c.put_label-p.ensures.0, c.put_label-p.auto, c.put_word-q.ensures.0, c.put_word-q.auto),
     )
 
 pub put_last-requires : goal.put_last-requires
 put_last-requires c =
     let whole : length (order_line_text (lowered c.args.anchor) c.args.labels.now c.args.widths.now c.args.starts.now c.args.k) ≡ length (label_of c.args.labels.now c.args.k) + length (signed_numeral (lowered c.line_number-n.result)) + length (numeral (at c.args.widths.now c.args.k)) + 3 = let e = ap (λ (z : ℤ). length (signed_numeral z)) c.line_number-n.ensures.0 in
-    omega (arith, order_line_length (lowered c.args.anchor) c.args.labels.now c.args.widths.now c.args.starts.now c.args.k, e) in
-    (
-  omega (arith, c.requires.0.narrow),
-  omega (arith, whole, c.requires.1, c.put_label-p.ensures.0, c.put_label-p.auto, c.put_word-q.ensures.0, c.put_word-q.auto, c.put_signed-e.ensures.0, c.put_signed-e.auto),
+    omega (arith, order_line_length (lowered c.args.anchor) c.args.labels.now c.args.widths.now c.args.starts.now c.args.k, e) in (
+      omega (arith, c.requires.0.narrow),
+      omega (arith, whole, c.requires.1, c.put_label-p.ensures.0, c.put_label-p.auto, c.put_word-q.ensures.0, c.put_word-q.auto, c.put_signed-e.ensures.0, c.put_signed-e.auto),
     )
 
 pub returns : goal.returns

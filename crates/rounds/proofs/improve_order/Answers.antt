@@ -26,14 +26,13 @@ pub loop-k-smaller : goal.loop-k-smaller
 loop-k-smaller c = omega (arith, c.loop-k-test.true)
 
 pub loop-k-preserved : goal.loop-k-preserved
-loop-k-preserved c =
-    (
-      omega (arith, c.loop-k-test.true),
-      (
-        improving_more c.args.n (lend c.args.widths.now c.args.guards.now) c.args.order.now c.args.seed c.loop-k.order _ c.loop-k.run _ c.loop-k.k c.loop-k.invariant.1.0 c.one_round-run.ensures.by_index,
-        kept_then _ _ _ _ c.loop-k.invariant.1.1 c.one_round-run.ensures.kept_from,
-      ),
-    )
+loop-k-preserved c = (
+  omega (arith, c.loop-k-test.true),
+  (
+    improving_more c.args.n (lend c.args.widths.now c.args.guards.now) c.args.order.now c.args.seed c.loop-k.order _ c.loop-k.run _ c.loop-k.k c.loop-k.invariant.1.0 c.one_round-run.ensures.by_index,
+    kept_then _ _ _ _ c.loop-k.invariant.1.1 c.one_round-run.ensures.kept_from,
+  ),
+)
 
 pub shape_of-order : goal.shape_of-order
 shape_of-order c =

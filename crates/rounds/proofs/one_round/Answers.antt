@@ -10,11 +10,17 @@ height_of-h-requires c =
 
 pub returns-then-h-run : goal.returns-then-h-run
 returns-then-h-run c =
-    record { by_index = λ table l. round_kept (highest_of c.args.n (lend c.args.widths.now c.args.guards.now) table) c.args.n c.args.run c.args.order.now _ c.next_state-x.result c.next_state-y.result c.place_of-a.result c.place_of-b.result c.height_of-h.result
-          c.next_state-x.ensures c.next_state-y.ensures c.place_of-a.ensures.0 c.place_of-b.ensures.0 c.swap.ensures (c.height_of-h.ensures.by_index table l) c.if-h-run.true; kept_from = c.height_of-h.ensures.kept_from }
+    record {
+      by_index = λ table l. round_kept (highest_of c.args.n (lend c.args.widths.now c.args.guards.now) table) c.args.n c.args.run c.args.order.now _ c.next_state-x.result c.next_state-y.result c.place_of-a.result c.place_of-b.result c.height_of-h.result
+          c.next_state-x.ensures c.next_state-y.ensures c.place_of-a.ensures.0 c.place_of-b.ensures.0 c.swap.ensures (c.height_of-h.ensures.by_index table l) c.if-h-run.true;
+      kept_from = c.height_of-h.ensures.kept_from;
+    }
 
 pub returns : goal.returns
 returns c =
-    record { by_index = λ table l. round_undone (highest_of c.args.n (lend c.args.widths.now c.args.guards.now) table) c.args.n c.args.run c.args.order.now _ c.next_state-x.result c.next_state-y.result c.place_of-a.result c.place_of-b.result c.height_of-h.result
+    record {
+      by_index = λ table l. round_undone (highest_of c.args.n (lend c.args.widths.now c.args.guards.now) table) c.args.n c.args.run c.args.order.now _ c.next_state-x.result c.next_state-y.result c.place_of-a.result c.place_of-b.result c.height_of-h.result
           c.next_state-x.ensures c.next_state-y.ensures c.place_of-a.ensures.0 c.place_of-b.ensures.0 c.swap.ensures (c.height_of-h.ensures.by_index table l) _
-          (omega (arith, c.place_of-a.ensures.1, c.requires.0.order_size, c.requires.0.network.few)) (omega (arith, c.place_of-b.ensures.1, c.requires.0.order_size, c.requires.0.network.few)) c.swap-2.ensures c.if-h-run.false; kept_from = c.height_of-h.ensures.kept_from }
+          (omega (arith, c.place_of-a.ensures.1, c.requires.0.order_size, c.requires.0.network.few)) (omega (arith, c.place_of-b.ensures.1, c.requires.0.order_size, c.requires.0.network.few)) c.swap-2.ensures c.if-h-run.false;
+      kept_from = c.height_of-h.ensures.kept_from;
+    }

@@ -17,5 +17,8 @@ pub returns : goal.returns
 returns c =
     let low_put : Passing (sides_of c.args.mark.now) c.args.n c.args.order.now c.put_side-low.new.order 1 0 c.put_side-low.result = let key = sides_of c.args.mark.now in
     passing_next key c.args.n c.args.order.now _ 0 c.args.n c.put_side-low.result (c.put_side-low.ensures c.args.order.now (passing_first key c.args.n c.args.order.now c.requires.1.1)) refl in
-    let l = low_put in record { value = passing_low c.args.n c.args.mark.now c.args.order.now _ c.put_side-low.result l; order_after = passing_last c.args.n c.args.mark.now c.args.order.now _ c.put_side.result
-          (passing_next (sides_of c.args.mark.now) c.args.n c.args.order.now _ 1 c.args.n c.put_side.result (c.put_side.ensures c.args.order.now l) refl) }
+    let l = low_put in record {
+      value = passing_low c.args.n c.args.mark.now c.args.order.now _ c.put_side-low.result l;
+      order_after = passing_last c.args.n c.args.mark.now c.args.order.now _ c.put_side.result
+          (passing_next (sides_of c.args.mark.now) c.args.n c.args.order.now _ 1 c.args.n c.put_side.result (c.put_side.ensures c.args.order.now l) refl);
+    }

@@ -13,8 +13,7 @@ pub put_path-p-requires : goal.put_path-p-requires
 put_path-p-requires c =
     let so_far : Passing (sides_of c.args.mark.now) c.args.n c.requires.1.1.0 c.loop-k.order c.args.side c.loop-k.k c.loop-k.p = c.loop-k.invariant.1 c.requires.1.1.0 c.requires.1.1.1 in
     let a = so_far in
-    let key = sides_of c.args.mark.now in
-    (
+    let key = sides_of c.args.mark.now in (
       omega (arith, c.requires.0),
       (
         omega (arith, c.requires.0, a.few),

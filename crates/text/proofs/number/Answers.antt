@@ -30,10 +30,9 @@ value-v-requires c = (c.run_end-end.ensures.0, c.run_end-end.ensures.1, omega ar
 
 pub returns : goal.returns
 unfolding class_of
-returns c =
-    (
-      number_some c.args.text.now c.args.place c.run_end-end.result c.run_end-end.ensures.0 (omega (arith, c.if-count-eq0.false)) (omega arith) c.if-text-place-eq48.false
-          ∙ ap (λ (v : ℕ). some v (drop c.run_end-end.result c.args.text.now)) (sym c.value-v.ensures.0),
-      c.value-v.ensures.1,
-      omega arith,
-    )
+returns c = (
+  number_some c.args.text.now c.args.place c.run_end-end.result c.run_end-end.ensures.0 (omega (arith, c.if-count-eq0.false)) (omega arith) c.if-text-place-eq48.false
+      ∙ ap (λ (v : ℕ). some v (drop c.run_end-end.result c.args.text.now)) (sym c.value-v.ensures.0),
+  c.value-v.ensures.1,
+  omega arith,
+)

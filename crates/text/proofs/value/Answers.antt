@@ -42,4 +42,4 @@ pub returns : goal.returns
 returns c = (
   sym (value_end c.args.text.now c.loop-i.i c.loop-i.v (omega arith)) ∙ c.loop-i.invariant.0,
   digits_few c.loop-i.v c.args.place c.loop-i.i 5 (omega arith) c.loop-i.invariant.3,
-    )
+)

@@ -37,8 +37,7 @@ overflow_add-own c = omega (arith, c.loop-j.invariant.1.0, power_most c.loop-j.j
 
 pub loop-j-preserved : goal.loop-j-preserved
 loop-j-preserved c =
-    let turn : (c.args.s < 256) × (8 * c.args.s + 8 ≤ length c.loop-j.walks) = (omega (arith, power_most c.args.k c.requires.0), omega (arith, c.loop-j.invariant.1.1.1.0)) in
-    (
+    let turn : (c.args.s < 256) × (8 * c.args.s + 8 ≤ length c.loop-j.walks) = (omega (arith, power_most c.args.k c.requires.0), omega (arith, c.loop-j.invariant.1.1.1.0)) in (
       omega arith,
       (
         power_next c.loop-j.j c.loop-j.own c.loop-j.invariant.1.0,
