@@ -42,7 +42,7 @@ unfolding done_why
 explaining_exact n lent starts path table =
     (explaining_explainable n lent starts path table, λ e. ap (λ (r : Left Why (List ℕ)). r.answer.number) (explainable_explaining n lent starts path table e))
 
--- the two_sided_lem call: the tables being right, 0 exactly when some split into two sides exists
+-- the two-sided call: the tables being right, 0 exactly when some split into two sides exists
 pub siding_split : (n : ℕ) (lent : Lent) (order : List ℕ)
     → ((siding n lent order).answer.number ≡ 0) ↔ (Sidable n lent order × ((high : ℕ → Bool) × Split (net_of lent) n high))
 siding_split n lent order = (

@@ -35,7 +35,7 @@ module _ (n : ℕ) (lent : Lent) (order starts : List ℕ) (seed rounds : ℕ) (
   room : n ≤ length order
   room = omega (arith, plannable.order_size, plannable.network.few)
 
-  -- where there are two sides: the two_sided_lem order, packed, with none kept
+  -- where there are two sides: the two-sided order, packed, with none kept
   pub sided : Packable n lent (two_sided n (is_high net n) order) starts
   sided = record {
     network = plannable.network;
@@ -52,7 +52,7 @@ module _ (n : ℕ) (lent : Lent) (order starts : List ℕ) (seed rounds : ℕ) (
     unfolding done_plan
     sided-is = plannable_planning n lent order starts seed rounds plannable ∙ rw has
 
-    -- two_sided_lem networks get the best plan: the figure of RULES 7, and no valid plan is lower
+    -- two-sided networks get the best plan: the figure of RULES 7, and no valid plan is lower
     pub planning_figure : leftBehind.answer.highest ≡ two_sided_highest net n
     unfolding done_planned
     planning_figure =

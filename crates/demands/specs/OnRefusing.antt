@@ -192,7 +192,7 @@ module _ (n : ℕ) (lent : Lent) (order starts : List ℕ) where
         done : ((done_plan (net_of lent) n order starts seed rounds).answer.number ≡ 0) × ((done_plan (net_of lent) n order starts seed rounds).answer.place ≡ 0)
         done = unfold done_plan done_planned done_improved in (either (has_sides (net_of lent) n) _ _ (refl, refl) (refl, refl))
 
--- the two_sided_lem call: where the network is within the limits the marks find two sides exactly where there
+-- the two-sided call: where the network is within the limits the marks find two sides exactly where there
 -- are some
 module _ (n : ℕ) (lent : Lent) (order : List ℕ) where
   sides-give : Network n lent → Gives (sides_test n (net_of lent) ∷ []) (sides_fault n (net_of lent))

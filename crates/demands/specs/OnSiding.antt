@@ -1,4 +1,4 @@
--- Demand 2 (RULES 21): the two sides and the two_sided_lem order, as the call answers. Assumes nothing.
+-- Demand 2 (RULES 21): the two sides and the two-sided order, as the call answers. Assumes nothing.
 use Prim.Native.Nat.{ℕ, suc, ◌≤◌, ◌<◌}
 use Rattle.std.specs.Prelude.{◌≡◌, ◌≢◌, ◌↔◌, Bool, List, length}
 use Rattle.std.proofs.Math.Path.{refl, subst}
@@ -23,7 +23,7 @@ use Rattle.plan_laws.specs.Fits.{network_good}
 use Rattle.table_laws.specs.Limits.{order_once}
 use Rattle.plan_laws.specs.Answers.{Packable, packable_packing, Sidable, siding_done, siding_nine, sidable_number, sidable_siding}
 
--- The two_sided_lem order, whatever the sides: first the low paths and then the high ones, each by number
+-- The two-sided order, whatever the sides: first the low paths and then the high ones, each by number
 module _ (n : ℕ) (high : ℕ → Bool) (order : List ℕ) (room : n ≤ length order) where
   o : ℕ → ℕ
   o = at (two_sided n high order)

@@ -129,7 +129,7 @@ module _ (n : ℕ) (labels : List ℕ) (lent : Lent) (starts : List ℕ) (few : 
     planned = λ e k l. rw (cell_same starts k l) (w.planned (sym plan-same ∙ e) k l);
   }
 
--- what was written, read and written again, given room, is the same bytes, with `Written-Read`
+-- what was written, read and written again, given room, is the same bytes, with `written_read`
 pub written_again : (n : ℕ) (labels : List ℕ) (lent : Lent) (starts text text' : List ℕ) → (writing n labels lent starts text).answer.number ≡ 0
     → length (sheet_text n labels lent starts) ≤ length text'
     → ((writing n (kept_labels n labels) (kept_network n lent) (kept_cells n starts) text').answer.number ≡ 0)

@@ -1,4 +1,4 @@
--- The two_sided_lem order packs to the figure of RULES 7, and no valid plan has a lower highest slot. Assumes
+-- The two-sided order packs to the figure of RULES 7, and no valid plan has a lower highest slot. Assumes
 -- nothing.
 use Rattle.std.specs.Prelude.{ℕ, ◌+◌, ◌-◌, ◌≤◌, ◌<◌, ◌≡◌, ◌≢◌, ◌⊎◌, Bool, List, length}
 use Rattle.std.proofs.Math.Path.{refl, ap}
@@ -41,7 +41,7 @@ module _ (net : Net) (n : ℕ) where
   walk_side s split l here = refl
   walk_side s split {i} l (step {j} {k} {odd} w h c) = split j k (walk_below l w) h c ∙ ap not (walk_side s split l w) ∙ flip_not odd (s i)
 
-  -- what the figure for the two_sided_lem order bounds
+  -- what the figure for the two-sided order bounds
   figure-width : (k : ℕ) → k < n → net.width k ≤ two_sided_highest net n
   unfolding two_sided_highest
   figure-width k l = omega (arith, largest_ge net.width n k l)
@@ -126,7 +126,7 @@ module _ (net : Net) (n : ℕ) where
                 (λ i h c. omega (arith, low-one i (omega arith) (earlier i m h l c), figure-pair (o i) (o m) (ord.inside i (omega arith)) (ord.inside m l) c)),
           )
 
-      -- the two_sided_lem order's highest slot, and that none is lower
+      -- the two-sided order's highest slot, and that none is lower
       pub two_sided_lem : highest net (at (packed (lowest net) (at (two_sided n s room)) t n)) n ≡ two_sided_highest net n
       unfolding p o
       two_sided_lem = omega (arith, highest_le net p n (two_sided_highest net n) (everywhere net n o ord (λ k. end net k (p k) ≤ two_sided_highest net n) ends), figure_holds p (packed_valid net n o ord t space good))

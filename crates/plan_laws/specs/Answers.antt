@@ -176,7 +176,7 @@ module _ (n : ℕ) (lent : Lent) (order starts : List ℕ) where
   unfolding packing
   packable_packing p = unless_done (pack_fault n lent order starts) (refused_packed starts) _ (clear_pack p)
 
--- the two_sided_lem call: 9 is its last test
+-- the two-sided call: 9 is its last test
 pub record Sidable (n : ℕ) (lent : Lent) (order : List ℕ) : Type 0 where
   pub network : Network n lent
   pub order_size : length order ≡ 128

@@ -1,4 +1,4 @@
--- The sides, for the code: what the finding goes by, and that the two_sided_lem order is an order. Assumes nothing.
+-- The sides, for the code: what the finding goes by, and that the two-sided order is an order. Assumes nothing.
 use Prim.Native.Nat.{ℕ, zero, suc, ◌≤◌, ◌<◌}
 use Rattle.std.specs.Prelude.{◌≡◌, Bool, List, length}
 use Rattle.std.proofs.Math.Path.{refl, ap}

@@ -33,7 +33,7 @@ use Rattle.rounds.specs.declared.Standing.{Standing}
 use Rattle.rounds.specs.Standing.{run_of}
 use Rattle.planning.specs.Chosen.{Chosen}
 
--- the two_sided_lem call
+-- the two-sided call
 module _ (n : ℕ) (lent : Lent) (order : List ℕ) (f : Fault) (e : f ≡ lent_fault n lent (size_fault order 128)) where
   pub two_refused : f.number ≢ 0 → left (record { number = f.number; place = f.place; low = 0 }) order ≡ siding n lent order
   unfolding siding two_sides_fault

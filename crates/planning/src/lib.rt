@@ -14,7 +14,7 @@ ghost use Rattle.planning.specs.Chosen.{Chosen};
 
 use rules::{Fault, Floored, Planned, Sided};
 
-// Finds the two sides: the two_sided_lem order goes into its table, and the size of the low side is answered.
+// Finds the two sides: the two-sided order goes into its table, and the size of the low side is answered.
 pub fn two_sides(n: usize, widths: &[u16], guards: &[u8], order: &mut [u8]) -> Sided
     ensures { left result order.new
         ≡ siding n (lend widths.now guards.now) order.old }
@@ -109,7 +109,7 @@ pub fn improve(
     packed_plan(n, widths, guards, order, starts, run.kept)
 }
 
-// The order of a plan, and the number of swaps kept for it: with two sides the two_sided_lem order, and no rounds are
+// The order of a plan, and the number of swaps kept for it: with two sides the two-sided order, and no rounds are
 // run; else the greedy order, improved. The rounds work in the table of starts, into which the plan will go.
 fn chosen_order(
     n: usize,

@@ -107,7 +107,7 @@ improving n lent order starts seed rounds =
     unless (improve_fault n lent order starts rounds) (refused_planned order starts)
     (done_improved (net_of lent) n order starts seed rounds)
 
--- plan(n, widths, guards, order, starts, seed, rounds), RULES 10: with sides the two_sided_lem order and none
+-- plan(n, widths, guards, order, starts, seed, rounds), RULES 10: with sides the two-sided order and none
 -- kept, else the greedy order, improved
 unfoldable pub done_plan : Net → ℕ → List ℕ → List ℕ → ℕ → ℕ → Left Planned (List ℕ × List ℕ)
 done_plan net n order starts seed rounds =

@@ -135,7 +135,7 @@ unfoldable pub why_fault : ℕ → Lent → List ℕ → ℕ → List ℕ → Fa
 why_fault n lent starts path chain =
     lent_fault n lent (plan_sizes chain starts) or_else start_fault n starts or_else clash_fault n (net_of lent) starts or_else path_fault n path
 
--- the two_sided_lem call
+-- the two-sided call
 unfoldable pub two_sides_fault : ℕ → Lent → List ℕ → Fault
 two_sides_fault n lent order = lent_fault n lent (size_fault order 128) or_else sides_fault n (net_of lent)
 

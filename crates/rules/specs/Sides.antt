@@ -49,14 +49,14 @@ same_mark net mark i j = ltb i j && (in_conflict net i j && eqb (mark i) (mark j
 unfoldable pub has_sides : Net → ℕ → Bool
 has_sides net n = not (found_pair (same_mark net (at (marks net n))) n)
 
--- the two_sided_lem order, first the low paths and then the high ones, each by number; and how many are low
+-- the two-sided order, first the low paths and then the high ones, each by number; and how many are low
 unfoldable pub two_sided : ℕ → (ℕ → Bool) → List ℕ → List ℕ
 two_sided n high order = arranged (λ s i k. cond (high k) 1 0) n order n
 
 unfoldable pub low_side : ℕ → (ℕ → Bool) → ℕ
 low_side n high = sum (λ k. cond (high k) 0 1) n
 
--- RULES 7: the highest slot that the two_sided_lem order reaches when it is packed
+-- RULES 7: the highest slot that the two-sided order reaches when it is packed
 unfoldable pub across_conflict : Net → ℕ → ℕ → ℕ
 across_conflict net i j = cond (in_conflict net i j) (net.width i + net.guard i j + net.width j) 0
 

@@ -1,4 +1,4 @@
--- From what marking and ordering tell to what finding the two_sided_lem order promises. Assumes nothing.
+-- From what marking and ordering tell to what finding the two-sided order promises. Assumes nothing.
 use Prim.Native.Nat.{ℕ}
 use mathlib.Core.Path.{◌≡◌, refl, sym}
 use mathlib.Core.Bool.{true, false}

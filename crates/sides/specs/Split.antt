@@ -1,4 +1,4 @@
--- What finding the two_sided_lem order leaves: the order of the two sides, or the order as it was. Assumes nothing.
+-- What finding the two-sided order leaves: the order of the two sides, or the order as it was. Assumes nothing.
 use Rattle.std.specs.Prelude.{ℕ, ◌≡◌, Bool, true, false, cond, List}
 use Rattle.std.proofs.Common.{sym, ap, ◌∙◌}
 use Rattle.rules.specs.Plan.{Net}

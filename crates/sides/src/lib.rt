@@ -199,7 +199,7 @@ fn put_side(n: usize, mark: &[u8], side: u8, order: &mut [u8], from: usize) -> u
     p
 }
 
-// The two_sided_lem order, the low paths by number and then the high ones; how many are low.
+// The two-sided order, the low paths by number and then the high ones; how many are low.
 fn order_sides(n: usize, mark: &[u8], order: &mut [u8]) -> usize
     requires { (n ≤ 128) × ((length mark.now ≡ 128) × (n ≤ length order.old)) }
     ensures value { result ≡ low_side n (λ k. eqb (at mark.now k) 2) }
@@ -218,7 +218,7 @@ pub struct Split {
     pub low: usize,
 }
 
-// The two_sided_lem order, where there are two sides; else the order stays as it was. The marks are all that is held for
+// The two-sided order, where there are two sides; else the order stays as it was. The marks are all that is held for
 // it: one byte a path, whatever the conflicts are.
 pub fn sided_order(n: usize, guards: &[u8], order: &mut [u8]) -> Split
     requires { (n ≤ 128) × ((length guards.now ≡ 16384) × (Mirrored n guards.now
