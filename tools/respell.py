@@ -20,6 +20,8 @@ DECLARED = re.compile(r"^\s*(?:(?:pub|unfoldable|abbrev|record|data|opaque)\s+)*
 
 # A name that meets another of the same spelling takes this ending: a lemma beside its definition.
 LEMMA = "_lem"
+# Three that meet a lemma in another form.
+OTHER = {"countForm": "count_formless", "pressOrder": "order_of_press", "greedyOrder": "order_of_greedy"}
 
 
 def read(path):
@@ -38,18 +40,17 @@ def snake(name):
 
 
 def declared():
-    """The names that the repository declares, with the files of each."""
+    """The names that the repository declares, at any depth, with the files of each."""
     out = collections.defaultdict(set)
-    for path in sorted(glob.glob(TOP + "/crates/*/specs/**/*.antt", recursive=True) + glob.glob(TOP + "/crates/*/proofs/*.antt")):
+    for path in antt():
+        if path.endswith("/Proof.antt"):
+            continue
+        of_a_function = re.search(r"/proofs/.+/[^/]+$", path)
         for line in read(path).split("\n"):
-            if line.startswith("--"):
+            if line.lstrip().startswith("--") or (of_a_function and ("goal." in line or line[:1] == " ")):
                 continue
             m = DECLARED.match(line)
-            if not m:
-                continue
-            if line[:1] == " " and not line.strip().startswith("pub "):
-                continue
-            for name in m[1].split(" "):
+            for name in m[1].split(" ") if m else []:
                 if name and (name[0].islower() or name[0] == "◌"):
                     out[name].add(path)
     return out
@@ -61,7 +62,7 @@ def antt():
 
 def main():
     own = declared()
-    turn = {name: snake(name) for name in own if snake(name) != name}
+    turn = {name: OTHER.get(name, snake(name)) for name in own if snake(name) != name}
     met = collections.defaultdict(list)
     for name, new in turn.items():
         met[new].append(name)
@@ -91,8 +92,14 @@ def main():
             ops[name.strip("◌")] = turn[name].strip("◌")
     turn.update(ops)
 
-    def turned(text):
-        return WORD.sub(lambda m: turn.get(m[0], m[0]), text)
+    # In the proof of a function the names of its goals and steps stay.
+    def turned(text, goals=()):
+        def one(m):
+            if goals and (m[0] in goals or re.search(r"(?<![^\s(){},;])[cl]\.(?:initial\.)?$", text[max(0, m.start() - 12):m.start()])):
+                return m[0]
+            return turn.get(m[0], m[0])
+
+        return WORD.sub(one, text)
 
     many = 0
     for path in sorted(glob.glob(TOP + "/crates/**/*.antt", recursive=True) + glob.glob(TOP + "/crates/**/*.rt", recursive=True)):
@@ -104,7 +111,8 @@ def main():
             parts = re.split(r'("(?:[^"\\\n]|\\.)*")', text)
             new = "".join(p if k % 2 else turned(p) for k, p in enumerate(parts))
         else:
-            new = turned(text)
+            goals = set(re.findall(r"goal\.([^\s(){}.;,]+)", text)) if re.search(r"/proofs/.+/[^/]+$", path) else ()
+            new = turned(text, goals)
         if new != text:
             write(path, new)
             many += 1

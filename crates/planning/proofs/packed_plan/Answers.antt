@@ -1,0 +1,8 @@
+use mathlib.Core.Path.{refl}
+use Rattle.rules.specs.Calls.{done_planned}
+use borrow.Author.Rules.{rules}
+use Rattle.planning.proofs.packed_plan.Goals as goal
+
+pub returns : goal.returns
+unfolding done_planned
+returns c = rw (c.pack_into-h.ensures.value, c.pack_into-h.ensures.starts_after) refl
