@@ -42,24 +42,24 @@ Small f = (f.place < 16384) × (f.short < 100000)
 
 module _ (n : ℕ) (lent : Lent) (starts : List ℕ) where
   module _ (w : Network n lent) (s : Starts n starts) where
-    guard-most : (i j : ℕ) → i < n → j < n → at lent.guards (cell i j) ≤ 255
-    guard-most i j a b = go (w.guard i j a b)
+    guard_most : (i j : ℕ) → i < n → j < n → at lent.guards (cell i j) ≤ 255
+    guard_most i j a b = go (w.guard i j a b)
       where
         go : (at lent.guards (cell i j) ≤ 32) ⊎ (at lent.guards (cell i j) ≡ 255) → at lent.guards (cell i j) ≤ 255
         go (inl l) = omega arith
         go (inr e) = omega arith
 
-    short-small : (i j : ℕ) → i < n → j < n → short (net_of lent) (at starts) i j < 100000
+    short_small : (i j : ℕ) → i < n → j < n → short (net_of lent) (at starts) i j < 100000
     unfolding short
-    short-small i j a b = go (is_lower (at starts) i j)
+    short_small i j a b = go (is_lower (at starts) i j)
       where
         go : (t : Bool) → cond t (past (net_of lent) i j (at starts i) - at starts j) (past (net_of lent) j i (at starts j) - at starts i) < 100000
-        go true = omega (arith, (w.width i a).1, (s.start i a).1, guard-most i j a b)
-        go false = omega (arith, (w.width j b).1, (s.start j b).1, guard-most j i b a)
+        go true = omega (arith, (w.width i a).1, (s.start i a).1, guard_most i j a b)
+        go false = omega (arith, (w.width j b).1, (s.start j b).1, guard_most j i b a)
 
-    clash-small : Small (clash_fault n (net_of lent) starts)
+    clash_small : Small (clash_fault n (net_of lent) starts)
     unfolding clash_fault square first_row found_pair
-    clash-small = go (found (λ i. found (bad i) n) n) refl
+    clash_small = go (found (λ i. found (bad i) n) n) refl
       where
         bad : ℕ → ℕ → Bool
         bad = too_close (net_of lent) (at starts)
@@ -72,47 +72,47 @@ module _ (n : ℕ) (lent : Lent) (starts : List ℕ) where
         go true e =
             let i = found_first (λ i. found (bad i) n) n e in
             let j = found_first (bad row) n i.1 in
-            (omega (arith, i.0, j.0, w.few), short-small row (first (bad row) n) i.0 j.0)
+            (omega (arith, i.0, j.0, w.few), short_small row (first (bad row) n) i.0 j.0)
         go false e = (omega arith, omega arith)
 
-  start-never : (start_fault n starts).number ≡ 8 → ◌≡◌ {A = ℕ} 8 0
+  start_never : (start_fault n starts).number ≡ 8 → ◌≡◌ {A = ℕ} 8 0
   unfolding start_fault scan
-  start-never = never_refuse _ 7 _ 8 (λ e. omega arith)
+  start_never = never_refuse _ 7 _ 8 (λ e. omega arith)
 
-  path-never : (path : ℕ) → (path_fault n path).number ≡ 8 → ◌≡◌ {A = ℕ} 8 0
+  path_never : (path : ℕ) → (path_fault n path).number ≡ 8 → ◌≡◌ {A = ℕ} 8 0
   unfolding path_fault
-  path-never path = never_refuse _ 6 _ 8 (λ e. omega arith)
+  path_never path = never_refuse _ 6 _ 8 (λ e. omega arith)
 
-  judge-small : (judge_fault n lent starts).number ≡ 8 → Small (judge_fault n lent starts)
+  judge_small : (judge_fault n lent starts).number ≡ 8 → Small (judge_fault n lent starts)
   unfolding judge_fault
-  judge-small z =
+  judge_small z =
       let rest = start_fault n starts or_else clash_fault n (net_of lent) starts in
       let a = or_past (lent_fault n lent (size_fault starts 128)) rest 8 (never_lent n lent (size_fault starts 128) 8 (never_size starts 128 8 (λ e. omega arith)) (inr (omega arith))) z in
-      let b = or_past (start_fault n starts) (clash_fault n (net_of lent) starts) 8 start-never a.1 in
+      let b = or_past (start_fault n starts) (clash_fault n (net_of lent) starts) 8 start_never a.1 in
       let w = lent_clear n lent (size_fault starts 128) a.0 in
       let e = or_second (lent_fault n lent (size_fault starts 128)) rest a.0 ∙ or_second (start_fault n starts) (clash_fault n (net_of lent) starts) b.0 in
-      subst Small (sym e) (clash-small w.0 (starts_within n starts (size_clear starts 128 w.1) b.0))
+      subst Small (sym e) (clash_small w.0 (starts_within n starts (size_clear starts 128 w.1) b.0))
 
   pub judging_small : (judging n lent starts).number ≡ 8 → ((judging n lent starts).place < 16384) × ((judging n lent starts).short < 100000)
   unfolding judging
-  judging_small = judge-small
+  judging_small = judge_small
 
   module _ (path : ℕ) (table : List ℕ) where
-    sizes-never : (plan_sizes table starts).number ≡ 8 → ◌≡◌ {A = ℕ} 8 0
+    sizes_never : (plan_sizes table starts).number ≡ 8 → ◌≡◌ {A = ℕ} 8 0
     unfolding plan_sizes
-    sizes-never = never_or (size_fault table 128) (size_fault starts 128) 8 (never_size table 128 8 (λ e. omega arith)) (never_size starts 128 8 (λ e. omega arith))
+    sizes_never = never_or (size_fault table 128) (size_fault starts 128) 8 (never_size table 128 8 (λ e. omega arith)) (never_size starts 128 8 (λ e. omega arith))
 
-    why-small : (why_fault n lent starts path table).number ≡ 8 → Small (why_fault n lent starts path table)
+    why_small : (why_fault n lent starts path table).number ≡ 8 → Small (why_fault n lent starts path table)
     unfolding why_fault
-    why-small z =
+    why_small z =
         let clash = clash_fault n (net_of lent) starts in
         let end = clash or_else path_fault n path in
-        let a = or_past (lent_fault n lent (plan_sizes table starts)) (start_fault n starts or_else end) 8 (never_lent n lent (plan_sizes table starts) 8 sizes-never (inr (omega arith))) z in
-        let b = or_past (start_fault n starts) end 8 start-never a.1 in
+        let a = or_past (lent_fault n lent (plan_sizes table starts)) (start_fault n starts or_else end) 8 (never_lent n lent (plan_sizes table starts) 8 sizes_never (inr (omega arith))) z in
+        let b = or_past (start_fault n starts) end 8 start_never a.1 in
         let w = lent_clear n lent (plan_sizes table starts) a.0 in
-        let some : clash.number ≢ 0 = λ q. absurd (omega (arith, path-never path (sym (ap (λ (x : Fault). x.number) (or_second clash (path_fault n path) q)) ∙ b.1))) in
+        let some : clash.number ≢ 0 = λ q. absurd (omega (arith, path_never path (sym (ap (λ (x : Fault). x.number) (or_second clash (path_fault n path) q)) ∙ b.1))) in
         let e = or_second (lent_fault n lent (plan_sizes table starts)) (start_fault n starts or_else end) a.0 ∙ or_second (start_fault n starts) end b.0 ∙ or_first clash (path_fault n path) some in
-        subst Small (sym e) (clash-small w.0 (starts_within n starts (plan_sizes_lem table starts w.1).1 b.0))
+        subst Small (sym e) (clash_small w.0 (starts_within n starts (plan_sizes_lem table starts w.1).1 b.0))
 
 -- judging
 module _ (n : ℕ) (labels : List ℕ) (lent : Lent) (starts : List ℕ) (f : Fault) (e : f ≡ judging n lent starts) where
@@ -161,15 +161,15 @@ module _ (name : List ℕ) (n : ℕ) (labels widths guards starts table table' :
       ap (λ (x : Left Why (List ℕ)). x.answer.number) e
       ∙ unless_number (λ (x : Left Why (List ℕ)). x.answer.number) fault (refused_why table) (done_why net (at starts) n path table) refl refl
 
-  is-refused : r.number ≢ 0 → ◌≡◌ {A = Left Why (List ℕ)} (left r table') (refused_why table fault)
+  is_refused : r.number ≢ 0 → ◌≡◌ {A = Left Why (List ℕ)} (left r table') (refused_why table fault)
   unfolding explaining
-  is-refused q = e ∙ unless_refused fault (refused_why table) (done_why net (at starts) n path table) (λ g. q (number_is ∙ g))
+  is_refused q = e ∙ unless_refused fault (refused_why table) (done_why net (at starts) n path table) (λ g. q (number_is ∙ g))
 
   pub why_told : r.number ≡ 8 → (r.place < 16384) × (r.short < 100000)
   unfolding refused_why
   why_told q =
-      let s = why-small n lent starts path table (sym number_is ∙ q) in
-      let d = is-refused (λ g. absurd (omega (arith, g, q))) in
+      let s = why_small n lent starts path table (sym number_is ∙ q) in
+      let d = is_refused (λ g. absurd (omega (arith, g, q))) in
       (omega (arith, s.0, ap (λ (x : Left Why (List ℕ)). x.answer.place) d), omega (arith, s.1, ap (λ (x : Left Why (List ℕ)). x.answer.short) d))
 
   module _ (q : r.number ≡ 0) where
@@ -179,25 +179,25 @@ module _ (name : List ℕ) (n : ℕ) (labels widths guards starts table table' :
     x : Explainable n lent starts path table
     x = explaining_explainable n lent starts path table (sym (ap (λ (y : Left Why (List ℕ)). y.answer.number) e) ∙ q)
 
-    is-done : ◌≡◌ {A = Left Why (List ℕ)} (left r table') (done_why net (at starts) n path table)
-    is-done = e ∙ explainable_explaining n lent starts path table x
+    is_done : ◌≡◌ {A = Left Why (List ℕ)} (left r table') (done_why net (at starts) n path table)
+    is_done = e ∙ explainable_explaining n lent starts path table x
 
-    it-is : Chain net (at starts) n path links
-    it-is = chain_is net (at starts) n path x.inside
+    it_is : Chain net (at starts) n path links
+    it_is = chain_is net (at starts) n path x.inside
 
     inside : (i : ℕ) → i < length links → at links i < n
-    inside = chain_inside net (at starts) n path links x.inside it-is
+    inside = chain_inside net (at starts) n path links x.inside it_is
 
-    length-is : r.length ≡ length links
+    length_is : r.length ≡ length links
     unfolding done_why
-    length-is = ap (λ (y : Left Why (List ℕ)). y.answer.length) is-done
+    length_is = ap (λ (y : Left Why (List ℕ)). y.answer.length) is_done
 
     table_is : table' ≡ links ++ drop (length links) table
     unfolding done_why
-    table_is = ap (λ (y : Left Why (List ℕ)). y.tables) is-done
+    table_is = ap (λ (y : Left Why (List ℕ)). y.tables) is_done
 
-    front-is : take r.length table' ≡ links
-    front-is = rw (length-is, table_is) (take-append_seam links (drop (length links) table))
+    front_is : take r.length table' ≡ links
+    front_is = rw (length_is, table_is) (take-append_seam links (drop (length links) table))
 
     told : (k : ℕ) → k < n → Told labels widths starts k
     told k l = record {
@@ -212,26 +212,26 @@ module _ (name : List ℕ) (n : ℕ) (labels widths guards starts table table' :
 
     chained : Chained labels widths guards starts links
     chained = record {
-      some = it-is.some;
+      some = it_is.some;
       few = omega (arith, chain_few net (at starts) n path, few);
       guards_size = x.network.guards_size;
       paths = λ i l. told (at links i) (inside i l);
     }
 
     pub why_chained : Chained labels widths guards starts (take r.length table')
-    why_chained = subst (Chained labels widths guards starts) (sym front-is) chained
+    why_chained = subst (Chained labels widths guards starts) (sym front_is) chained
 
     pub why_front : r.length ≡ length (take r.length table')
-    why_front = length-is ∙ ap length (sym front-is)
+    why_front = length_is ∙ ap length (sym front_is)
 
     pub why_within : r.length ≤ length table'
-    why_within = omega (arith, length-is, ap length table_is, length-append links (drop (length links) table))
+    why_within = omega (arith, length_is, ap length table_is, length-append links (drop (length links) table))
 
     pub why_down : r.down < 100000
     unfolding done_why down
     why_down =
-        let d : r.down ≡ at starts (last links) - bottom net (at starts) n (last links) = ap (λ (y : Left Why (List ℕ)). y.answer.down) is-done in
-        let l = inside (length links - 1) (omega (arith, it-is.some)) in
+        let d : r.down ≡ at starts (last links) - bottom net (at starts) n (last links) = ap (λ (y : Left Why (List ℕ)). y.answer.down) is_done in
+        let l = inside (length links - 1) (omega (arith, it_is.some)) in
         omega (arith, d, (x.legal.start (last links) l).1)
 
 pub blank_chain : replicate 128 0 ≡ cleared 128 0

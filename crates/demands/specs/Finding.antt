@@ -26,27 +26,27 @@ use Rattle.plan_laws.specs.Arranged.{arranged_order, arranged_least, arranged_fi
 use Rattle.demands.specs.TwoSided.{flip, walk_below, walk_side}
 
 module _ (net : Net) where
-  touches-not : (o : ℕ → ℕ) (m k : ℕ) → touches net o m k ≡ false → (i : ℕ) → i < m → Conflict net (o i) k → ⊥
+  touches_not : (o : ℕ → ℕ) (m k : ℕ) → touches net o m k ≡ false → (i : ℕ) → i < m → Conflict net (o i) k → ⊥
   unfolding touches
-  touches-not o m k e i l c = true≢false (sym (lt-ltb _ _ c) ∙ found_not (λ i. in_conflict net (o i) k) m e i l)
+  touches_not o m k e i l c = true≢false (sym (lt-ltb _ _ c) ∙ found_not (λ i. in_conflict net (o i) k) m e i l)
 
   touches_none : (o : ℕ → ℕ) (m k : ℕ) → ((i : ℕ) → i < m → Conflict net (o i) k → ⊥) → touches net o m k ≡ false
   unfolding touches
-  touches_none o m k h = found_none (λ i. in_conflict net (o i) k) m (λ i l. le-ltb (net.guard (o i) k) 255 (not-below (h i l)))
+  touches_none o m k h = found_none (λ i. in_conflict net (o i) k) m (λ i l. le-ltb (net.guard (o i) k) 255 (not_below (h i l)))
     where
-      not-below : {g : ℕ} → (g < 255 → ⊥) → 255 ≤ g
-      not-below {g} h = go (dec_lt g 255)
+      not_below : {g : ℕ} → (g < 255 → ⊥) → 255 ≤ g
+      not_below {g} h = go (dec_lt g 255)
         where
           go : Dec (g < 255) → 255 ≤ g
           go (yes l) = absurd (h l)
           go (no l) = omega arith
 
   -- no conflict with an earlier one, or the other mark than one of them
-  opposite-cases : (p o : ℕ → ℕ) (m k : ℕ)
+  opposite_cases : (p o : ℕ → ℕ) (m k : ℕ)
       → (((i : ℕ) → i < m → Conflict net (o i) k → ⊥) × (opposite net p o m k ≡ 1)) ⊎ ((i : ℕ) × (i < m) × Conflict net (o i) k × (opposite net p o m k ≡ 3 - p (o i)))
   unfolding opposite
-  opposite-cases p o zero k = inl (λ i l. absurd (omega arith), refl)
-  opposite-cases p o (suc m) k = go (ltb (net.guard (o m) k) 255) refl (opposite-cases p o m k)
+  opposite_cases p o zero k = inl (λ i l. absurd (omega arith), refl)
+  opposite_cases p o (suc m) k = go (ltb (net.guard (o m) k) 255) refl (opposite_cases p o m k)
     where
       go : (b : Bool) → ltb (net.guard (o m) k) 255 ≡ b
           → (((i : ℕ) → i < m → Conflict net (o i) k → ⊥) × (opposite net p o m k ≡ 1)) ⊎ ((i : ℕ) × (i < m) × Conflict net (o i) k × (opposite net p o m k ≡ 3 - p (o i)))
@@ -56,14 +56,14 @@ module _ (net : Net) where
       go false e (inr h) = inr (h.0, omega (arith, h.1), h.2, h.3)
 
   -- no conflict joins two paths of one mark, exactly where that is not found
-  marks-differ : (p : ℕ → ℕ) (n : ℕ) → found_pair (same_mark net p) n ≡ false → (i j : ℕ) → i < j → j < n → Conflict net i j → p i ≢ p j
+  marks_differ : (p : ℕ → ℕ) (n : ℕ) → found_pair (same_mark net p) n ≡ false → (i j : ℕ) → i < j → j < n → Conflict net i j → p i ≢ p j
   unfolding same_mark
-  marks-differ p n e i j h l c q =
+  marks_differ p n e i j h l c q =
       let z = pair_not (λ i j. ltb i j && (in_conflict net i j && eqb (p i) (p j))) n e i j (omega arith) l in
       true≢false (rw (lt-ltb i j h, lt-ltb (net.guard i j) 255 c, eq-eqb (p i) (p j) q) at z)
 
-  differ-marks : (p : ℕ → ℕ) (n : ℕ) → ((i j : ℕ) → i < j → j < n → Conflict net i j → p i ≢ p j) → found_pair (same_mark net p) n ≡ false
-  differ-marks p n h = pair_none (same_mark net p) n (λ i j g l. quiet i j l)
+  differ_marks : (p : ℕ → ℕ) (n : ℕ) → ((i j : ℕ) → i < j → j < n → Conflict net i j → p i ≢ p j) → found_pair (same_mark net p) n ≡ false
+  differ_marks p n h = pair_none (same_mark net p) n (λ i j g l. quiet i j l)
     where
       quiet : (i j : ℕ) → j < n → same_mark net p i j ≡ false
       quiet i j l = unfold same_mark in (go (ltb i j) refl (in_conflict net i j) refl)
@@ -96,21 +96,21 @@ module _ (net : Net) where
     marked = packed_packs (opposite net) (opposite_local net) W (cleared 128 0) n (record { inside = λ i l. omega (arith, ord.inside i l, cleared_length 128 0); fresh = ord.fresh })
 
     -- the key as the whole order has it
-    key-is : (i k : ℕ) → i ≤ n → touches net (at (grown net n o i)) i k ≡ touches net W i k
+    key_is : (i k : ℕ) → i ≤ n → touches net (at (grown net n o i)) i k ≡ touches net W i k
     unfolding W
-    key-is i k l = touches_local net (at (grown net n o i)) W i k (λ h g. arranged_begins (λ s i k. cond (touches net (at s) i k) 0 1) n o room n i h g l (omega arith))
+    key_is i k l = touches_local net (at (grown net n o i)) W i k (λ h g. arranged_begins (λ s i k. cond (touches net (at s) i k) 0 1) n o room n i h g l (omega arith))
 
     -- where a path touches none before it, no later one does, and it has the lowest number of those
-    none-later : (m j : ℕ) → m < j → j < n → touches net W m (W m) ≡ false → (touches net W m (W j) ≡ false) × (W m ≤ W j)
+    none_later : (m j : ℕ) → m < j → j < n → touches net W m (W m) ≡ false → (touches net W m (W j) ≡ false) × (W m ≤ W j)
     unfolding W
-    none-later m j h l e = (go (touches net W m (W j)) refl, rw (key-is m (W j) (omega arith), key-is m (W m) (omega arith), e) at (arranged_first (λ s i k. cond (touches net (at s) i k) 0 1) n o room n m (W j) (omega arith) (omega arith) (ord.inside j l) (λ k g. ord.fresh k j (omega arith) l)) (small (touches net W m (W j))))
+    none_later m j h l e = (go (touches net W m (W j)) refl, rw (key_is m (W j) (omega arith), key_is m (W m) (omega arith), e) at (arranged_first (λ s i k. cond (touches net (at s) i k) 0 1) n o room n m (W j) (omega arith) (omega arith) (ord.inside j l) (λ k g. ord.fresh k j (omega arith) l)) (small (touches net W m (W j))))
       where
         small : (b : Bool) → cond b 0 1 ≤ 1
         small true = omega arith
         small false = omega arith
 
         less : cond (touches net W m (W m)) 0 1 ≤ cond (touches net W m (W j)) 0 1
-        less = rw (key-is m (W j) (omega arith), key-is m (W m) (omega arith)) at (arranged_least (λ s i k. cond (touches net (at s) i k) 0 1) n o room n m (W j) (omega arith) (omega arith) (ord.inside j l) (λ k g. ord.fresh k j (omega arith) l))
+        less = rw (key_is m (W j) (omega arith), key_is m (W m) (omega arith)) at (arranged_least (λ s i k. cond (touches net (at s) i k) 0 1) n o room n m (W j) (omega arith) (omega arith) (ord.inside j l) (λ k g. ord.fresh k j (omega arith) l))
 
         go : (b : Bool) → touches net W m (W j) ≡ b → touches net W m (W j) ≡ false
         go false f = f
@@ -124,12 +124,12 @@ module _ (net : Net) where
       lowest : (j : ℕ) → r ≤ j → j < n → W r ≤ W j
       walks : (i : ℕ) → r ≤ i → i < m → (b : Bool) × Walk net n (W r) (W i) b × (p (W i) ≡ cond b 2 1)
 
-    new-root : (m : ℕ) → m < n → ((i : ℕ) → i < m → Conflict net (W i) (W m) → ⊥) → p (W m) ≡ 1 → Root (suc m) m
-    new-root m l none e = record {
+    new_root : (m : ℕ) → m < n → ((i : ℕ) → i < m → Conflict net (W i) (W m) → ⊥) → p (W m) ≡ 1 → Root (suc m) m
+    new_root m l none e = record {
       inside = omega arith;
       one = e;
-      closed = λ i j h g k. each j (λ j. Conflict net (W i) (W j) → ⊥) g (none i h) (λ x. touches-not W m (W j) (none-later m j x k quiet).0 i h);
-      lowest = λ j g k. each j (λ j. W m ≤ W j) g (omega arith) (λ x. (none-later m j x k quiet).1);
+      closed = λ i j h g k. each j (λ j. Conflict net (W i) (W j) → ⊥) g (none i h) (λ x. touches_not W m (W j) (none_later m j x k quiet).0 i h);
+      lowest = λ j g k. each j (λ j. W m ≤ W j) g (omega arith) (λ x. (none_later m j x k quiet).1);
       walks = λ i h g. let q : m ≡ i = omega arith in subst (λ i. (b : Bool) × Walk net n (W m) (W i) b × (p (W i) ≡ cond b 2 1)) q (false, here, e);
     }
       where
@@ -148,17 +148,17 @@ module _ (net : Net) where
     other false = refl
 
     rooted : (m : ℕ) → m < n → (r : ℕ) × Root (suc m) r
-    rooted zero l = go (opposite-cases p W 0 (W 0))
+    rooted zero l = go (opposite_cases p W 0 (W 0))
       where
         go : (((i : ℕ) → i < 0 → Conflict net (W i) (W 0) → ⊥) × (opposite net p W 0 (W 0) ≡ 1)) ⊎ ((i : ℕ) × (i < 0) × Conflict net (W i) (W 0) × (opposite net p W 0 (W 0) ≡ 3 - p (W i))) → (r : ℕ) × Root 1 r
-        go (inl h) = (0, new-root 0 l h.0 (marked 0 l ∙ h.1))
+        go (inl h) = (0, new_root 0 l h.0 (marked 0 l ∙ h.1))
         go (inr h) = absurd (omega (arith, h.1))
-    rooted (suc m) l = go (rooted m (omega arith)) (opposite-cases p W (suc m) (W (suc m)))
+    rooted (suc m) l = go (rooted m (omega arith)) (opposite_cases p W (suc m) (W (suc m)))
       where
         go : (r : ℕ) × Root (suc m) r
             → (((i : ℕ) → i < suc m → Conflict net (W i) (W (suc m)) → ⊥) × (opposite net p W (suc m) (W (suc m)) ≡ 1)) ⊎ ((i : ℕ) × (i < suc m) × Conflict net (W i) (W (suc m)) × (opposite net p W (suc m) (W (suc m)) ≡ 3 - p (W i)))
             → (r : ℕ) × Root (suc (suc m)) r
-        go x (inl h) = (suc m, new-root (suc m) l h.0 (marked (suc m) l ∙ h.1))
+        go x (inl h) = (suc m, new_root (suc m) l h.0 (marked (suc m) l ∙ h.1))
         go x (inr h) =
             let r = x.0 in
             let y = x.1 in
@@ -181,8 +181,8 @@ module _ (net : Net) where
             within r i y (no a) c = omega arith
 
     -- every mark is 1 or 2, and a path marked 2 has a path of a lower number in its connected part
-    one-or-two : (k : ℕ) → k < n → (b : Bool) × (p k ≡ cond b 2 1)
-    one-or-two k l =
+    one_or_two : (k : ℕ) → k < n → (b : Bool) × (p k ≡ cond b 2 1)
+    one_or_two k l =
         let a = place W n ord k l in
         let x = rooted a.0 a.1 in
         let w = x.1.walks a.0 (omega (arith, x.1.inside)) (omega arith) in
@@ -207,25 +207,25 @@ module _ (net : Net) where
     high_is false k e = rw e
 
     -- a walk that ends in the part of a root comes from it: no walk enters that part
-    from-part : (m r : ℕ) → Root m r → {j k : ℕ} {b : Bool} → j < n → Walk net n j k b
+    from_part : (m r : ℕ) → Root m r → {j k : ℕ} {b : Bool} → j < n → Walk net n j k b
         → (q : ℕ) → r ≤ q → q < n → W q ≡ k → (i : ℕ) × (r ≤ i) × (i < n) × (W i ≡ j)
-    from-part m r y l here q a h e = (q, a, h, e)
-    from-part m r y l (step {j = i} w g c) q a h e =
+    from_part m r y l here q a h e = (q, a, h, e)
+    from_part m r y l (step {j = i} w g c) q a h e =
         let x = place W n ord i (walk_below net n l w) in
-        from-part m r y l w x.0 (stays x.0 x.2 (dec_lt x.0 r)) x.1 x.2
+        from_part m r y l w x.0 (stays x.0 x.2 (dec_lt x.0 r)) x.1 x.2
       where
         stays : (z : ℕ) → W z ≡ i → Dec (z < r) → r ≤ z
         stays z f (yes d) = absurd (y.closed z q d a h (rw (f, e) c))
         stays z f (no d) = omega arith
 
     -- so no walk joins a root to a path of a lower number, and by the rule of the sides (RULES 7) it is low
-    root-low : (s : ℕ → Bool) → Sides net n s → (m r : ℕ) → m ≤ n → Root m r → s (W r) ≡ false
-    root-low s sides m r g y = sides.lowest (W r) (ord.inside r (omega (arith, y.inside))) (λ j b l w. under-root j b l w)
+    root_low : (s : ℕ → Bool) → Sides net n s → (m r : ℕ) → m ≤ n → Root m r → s (W r) ≡ false
+    root_low s sides m r g y = sides.lowest (W r) (ord.inside r (omega (arith, y.inside))) (λ j b l w. under_root j b l w)
       where
-        under-root : (j : ℕ) (b : Bool) → j < W r → Walk net n j (W r) b → ⊥
-        under-root j b l w =
+        under_root : (j : ℕ) (b : Bool) → j < W r → Walk net n j (W r) b → ⊥
+        under_root j b l w =
             let h : r < n = omega (arith, y.inside) in
-            let x = from-part m r y (omega (arith, ord.inside r h)) w r (omega arith) h refl in
+            let x = from_part m r y (omega (arith, ord.inside r h)) w r (omega arith) h refl in
             omega (arith, y.lowest x.0 x.1 x.2, x.3)
 
     -- The sides are those found: there is no second answer
@@ -244,17 +244,17 @@ module _ (net : Net) where
         agree : (m r : ℕ) → m < n → Root (suc m) r → (b : Bool) → Walk net n (W r) (W m) b → p (W m) ≡ cond b 2 1 → s (W m) ≡ is_high net n (W m)
         agree m r g y b w e =
             walk_side net n s sides.split (ord.inside r (omega (arith, y.inside))) w
-            ∙ ap (flip b) (root-low s sides (suc m) r g y) ∙ flip_low b ∙ sym (high_is b (W m) e)
+            ∙ ap (flip b) (root_low s sides (suc m) r g y) ∙ flip_low b ∙ sym (high_is b (W m) e)
 
     -- where every conflict joins two sides, it joins two marks
-    same-flip : (a b x : Bool) → cond {A = ℕ} a 2 1 ≡ cond b 2 1 → flip b x ≡ not (flip a x) → ⊥
+    same_flip : (a b x : Bool) → cond {A = ℕ} a 2 1 ≡ cond b 2 1 → flip b x ≡ not (flip a x) → ⊥
     unfolding flip
-    same-flip true true true e f = false≢true f
-    same-flip true true false e f = true≢false f
-    same-flip true false x e f = omega arith
-    same-flip false true x e f = omega arith
-    same-flip false false true e f = true≢false f
-    same-flip false false false e f = false≢true f
+    same_flip true true true e f = false≢true f
+    same_flip true true false e f = true≢false f
+    same_flip true false x e f = omega arith
+    same_flip false true x e f = omega arith
+    same_flip false false true e f = true≢false f
+    same_flip false false false e f = false≢true f
 
     apart : (s : ℕ → Bool) → Split net n s → (i j : ℕ) → i < j → j < n → Conflict net (W i) (W j) → p (W i) ≢ p (W j)
     apart s split i j h l c q =
@@ -265,7 +265,7 @@ module _ (net : Net) where
         let a = y.walks i after (omega arith) in
         let b = y.walks j (omega arith) (omega arith) in
         let lr : W r < n = ord.inside r (omega arith) in
-        same-flip a.0 b.0 (s (W r)) (sym a.2 ∙ q ∙ b.2)
+        same_flip a.0 b.0 (s (W r)) (sym a.2 ∙ q ∙ b.2)
         (sym (walk_side net n s split lr b.1) ∙ split (W i) (W j) (ord.inside i (omega arith)) (ord.inside j l) c ∙ ap not (walk_side net n s split lr a.1))
       where
         within : (r : ℕ) → Root (suc j) r → Dec (i < r) → r ≤ i
@@ -288,13 +288,13 @@ module _ (net : Net) where
       pub found_sides : has_sides net n ≡ true → Sides net n (is_high net n)
       unfolding has_sides p
       found_sides e = record {
-        split = λ i j h l c. sides i j h l (one-or-two i h) (one-or-two j l) (ne i j h l c (dec_lt i j) (dec_lt j i));
+        split = λ i j h l c. sides i j h l (one_or_two i h) (one_or_two j l) (ne i j h l c (dec_lt i j) (dec_lt j i));
         lowest = λ k l none. low k l none (is_high net n k) refl;
       }
         where
           ne : (i j : ℕ) → i < n → j < n → Conflict net i j → Dec (i < j) → Dec (j < i) → p i ≢ p j
-          ne i j h l c (yes x) d = marks-differ p n (not-true _ e) i j x l c
-          ne i j h l c (no x) (yes y) = λ q. marks-differ p n (not-true _ e) j i y h (omega (arith, good.mirrored i j h l)) (sym q)
+          ne i j h l c (yes x) d = marks_differ p n (not-true _ e) i j x l c
+          ne i j h l c (no x) (yes y) = λ q. marks_differ p n (not-true _ e) j i y h (omega (arith, good.mirrored i j h l)) (sym q)
           ne i j h l c (no x) (no y) = let e : i ≡ j = omega arith in absurd (omega (arith, good.alone j l, subst (λ z. net.guard z j < 255) e c))
 
           sides : (i j : ℕ) → i < n → j < n → (b : Bool) × (p i ≡ cond b 2 1) → (b : Bool) × (p j ≡ cond b 2 1) → p i ≢ p j → is_high net n j ≡ not (is_high net n i)
@@ -305,14 +305,14 @@ module _ (net : Net) where
 
           low : (k : ℕ) → k < n → ((j : ℕ) (b : Bool) → j < k → Walk net n j k b → ⊥) → (b : Bool) → is_high net n k ≡ b → is_high net n k ≡ false
           low k l none false f = f
-          low k l none true f = let x = under k l (eqb-true (p k) 2 (high-mark k f)) in absurd (none x.0 x.1 x.2 x.3)
+          low k l none true f = let x = under k l (eqb-true (p k) 2 (high_mark k f)) in absurd (none x.0 x.1 x.2 x.3)
             where
-              high-mark : (k : ℕ) → is_high net n k ≡ true → eqb (p k) 2 ≡ true
-              high-mark k f = unfold is_high in f
+              high_mark : (k : ℕ) → is_high net n k ≡ true → eqb (p k) 2 ≡ true
+              high_mark k f = unfold is_high in f
 
       pub found_all : (s : ℕ → Bool) → Split net n s → has_sides net n ≡ true
       unfolding has_sides p
-      found_all s split = ap not (differ-marks p n (λ i j h l c. differ s split i j (omega arith) l c))
+      found_all s split = ap not (differ_marks p n (λ i j h l c. differ s split i j (omega arith) l c))
 
 -- A path with no conflict is low
 pub alone_low : (net : Net) (n : ℕ) (s : ℕ → Bool) → Sides net n s → (k : ℕ) → k < n → ((j : ℕ) → j < n → Conflict net j k → ⊥) → s k ≡ false

@@ -44,15 +44,15 @@ module _ (net : Net) (n : ℕ) (good : Good net n) (c : ℕ → ℕ) (k : ℕ) (
           (omega (arith, q.all j i (omega arith) h), omega (arith, guard_le net c k j i (omega arith) h))
 
   -- no walk is shorter than the least guard at each step
-  walk-ge : (o : ℕ → ℕ) → Order o k k → (k - 1) * least_guard net c k ≤ walk_length guards k o
+  walk_ge : (o : ℕ → ℕ) → Order o k k → (k - 1) * least_guard net c k ≤ walk_length guards k o
   unfolding walk_length
-  walk-ge o ord = sum_ge (λ i. guards (o i) (o (suc i))) (least_guard net c k) (k - 1)
+  walk_ge o ord = sum_ge (λ i. guards (o i) (o (suc i))) (least_guard net c k) (k - 1)
       (λ i l. (both (o i) (o (suc i)) (ord.inside i (omega arith)) (ord.inside (suc i) (omega arith)) (ord.fresh i (suc i) (omega arith) (omega arith))).1)
 
   -- the floor is not below the coarse one
   pub floor_finer : coarse_floor net c k ≤ floor net c k
   unfolding coarse_floor floor
-  floor_finer = let s = shortest_at guards k in omega (arith, walk-ge s.0 s.1, s.2)
+  floor_finer = let s = shortest_at guards k in omega (arith, walk_ge s.0 s.1, s.2)
 
   module _ (p : ℕ → ℕ) (v : Valid net n p) where
     -- the list by start

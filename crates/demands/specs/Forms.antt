@@ -108,11 +108,11 @@ spell_on (x ∷ w) j v a p b =
     let big : 10 ≤ u = omega arith in
     rw e
     (spell_on w (suc j) u a.1 (omega arith) (omega arith)
-    ∙ ap (λ (s : List ℕ). s ++ w) (tail-is u big t m)
+    ∙ ap (λ (s : List ℕ). s ++ w) (tail_is u big t m)
     ∙ append_assoc (spell (suc j) v) (x ∷ []) w)
   where
-    tail-is : (u : ℕ) → 10 ≤ u → u / 10 ≡ v → 48 + u % 10 ≡ x → spell (suc (suc j)) u ≡ spell (suc j) v ++ (x ∷ [])
-    tail-is u big t m = spell_big (suc j) u big ∙ rw (t, m)
+    tail_is : (u : ℕ) → 10 ≤ u → u / 10 ≡ v → 48 + u % 10 ≡ x → spell (suc (suc j)) u ≡ spell (suc j) v ++ (x ∷ [])
+    tail_is u big t m = spell_big (suc j) u big ∙ rw (t, m)
 
 -- more room for digits than there are
 spell_room : (j k n : ℕ) → n < 10 ^ suc k → spell (suc k + j) n ≡ spell (suc k) n

@@ -55,8 +55,8 @@ module _ (n : ℕ) (labels : List ℕ) (lent : Lent) (starts : List ℕ) (ok : W
   abbrev step : ℕ → List ℕ → List ℕ → Line (List ℕ)
   step = guard_step n (kept_labels n labels)
 
-  upto-none : Upto n lent.guards 0 (cleared 16384 255)
-  upto-none = record {
+  upto_none : Upto n lent.guards 0 (cleared 16384 255)
+  upto_none = record {
     long = cleared_length 16384 255;
     set_cells = λ a b h l c. absurd (omega arith);
     late_cells = λ a b h l c. (cleared_at 16384 255 (cell a b) (omega arith), cleared_at 16384 255 (cell b a) (omega arith));
@@ -100,8 +100,8 @@ module _ (n : ℕ) (labels : List ℕ) (lent : Lent) (starts : List ℕ) (ok : W
         at_other (set t (cell i j) g) (cell j i) g (cell i j) (λ e. omega (arith, ok.network.few))
         ∙ at_same t (cell i j) g (omega (arith, ok.network.few, u.long))
 
-    second-cell : at t' (cell j i) ≡ g
-    second-cell = at_same (set t (cell i j) g) (cell j i) g (omega (arith, ok.network.few, u.long, length-set t (cell i j) g))
+    second_cell : at t' (cell j i) ≡ g
+    second_cell = at_same (set t (cell i j) g) (cell j i) g (omega (arith, ok.network.few, u.long, length-set t (cell i j) g))
 
     -- a cell above the diagonal, and its mirror, that is not this pair's
     others : (a b v w : ℕ) → a < b → b < 128 → cell a b ≢ cell i j → (at t (cell a b) ≡ v) × (at t (cell b a) ≡ w) → (at t' (cell a b) ≡ v) × (at t' (cell b a) ≡ w)
@@ -110,8 +110,8 @@ module _ (n : ℕ) (labels : List ℕ) (lent : Lent) (starts : List ℕ) (ok : W
         let nr : a ≡ i → b ≡ j → ⊥ = λ e f. ne (omega arith) in
         (other (cell a b) ne (λ e. omega arith) ∙ p.0, other (cell b a) (λ e. omega arith) (λ e. ne (omega arith)) ∙ p.1)
 
-    upto-more : Upto n lent.guards (suc (cell i j)) t'
-    upto-more = record {
+    upto_more : Upto n lent.guards (suc (cell i j)) t'
+    upto_more = record {
       long = length-set (set t (cell i j) g) (cell j i) g ∙ length-set t (cell i j) g ∙ u.long;
       set_cells = λ a b x y c. go a b x y (dec_lt (cell a b) (cell i j)) c;
       late_cells = λ a b x y c. others a b 255 255 x y (λ e. omega arith) (u.late_cells a b x y (omega arith));
@@ -125,11 +125,11 @@ module _ (n : ℕ) (labels : List ℕ) (lent : Lent) (starts : List ℕ) (ok : W
             let few = ok.network.few in
             let p : a ≡ i = omega arith in
             let q : b ≡ j = omega arith in
-            rw (p, q) (first_cell, second-cell)
+            rw (p, q) (first_cell, second_cell)
 
   -- a row's end is the next row's beginning
-  upto-row : (i : ℕ) (t : List ℕ) → Upto n lent.guards (cell i n) t → Upto n lent.guards (cell (suc i) 0) t
-  upto-row i t u = record {
+  upto_row : (i : ℕ) (t : List ℕ) → Upto n lent.guards (cell i n) t → Upto n lent.guards (cell (suc i) 0) t
+  upto_row i t u = record {
     long = u.long;
     set_cells = λ a b h l c. u.set_cells a b h l (let few = ok.network.few in omega arith);
     late_cells = λ a b h l c. u.late_cells a b h l (let few = ok.network.few in omega arith);
@@ -138,9 +138,9 @@ module _ (n : ℕ) (labels : List ℕ) (lent : Lent) (starts : List ℕ) (ok : W
   }
 
   -- one guard line, written and read
-  guard-back : (i j k : ℕ) (t l : List ℕ) → i < j → j < n → at lent.guards (cell i j) ≤ 32 → Upto n lent.guards (cell i j) t
+  guard_back : (i j k : ℕ) (t l : List ℕ) → i < j → j < n → at lent.guards (cell i j) ≤ 32 → Upto n lent.guards (cell i j) t
       → step k t (pair_text labels lent.guards i j ++ l) ≡ right (set (set t (cell i j) (at lent.guards (cell i j))) (cell j i) (at lent.guards (cell i j))) l
-  guard-back i j k t l h b near u =
+  guard_back i j k t l h b near u =
       let c : i < n = omega arith in
       let few = ok.network.few in
       let flat : pair_text labels lent.guards i j ++ l ≡ label_of labels i ++ 32 ∷ (label_of labels j ++ 32 ∷ (numeral (at lent.guards (cell i j)) ++ 10 ∷ l)) = simp append_assoc in
@@ -166,10 +166,10 @@ module _ (n : ℕ) (labels : List ℕ) (lent : Lent) (starts : List ℕ) (ok : W
   one_line top m k t t' l l' e = rw e
 
   -- a cell of the square: no line, or a line
-  row-cell : (top i j c : ℕ) (t rest l : List ℕ) (m s : ℕ) → i < n → j < n → Upto n lent.guards (cell i j) t
+  row_cell : (top i j c : ℕ) (t rest l : List ℕ) (m s : ℕ) → i < n → j < n → Upto n lent.guards (cell i j) t
       → ((t' : List ℕ) → Upto n lent.guards (suc (cell i j)) t' → Reads top c t' (rest ++ l) m s l)
       → Reads top (mark i j + c) t ((guard_text labels lent.guards i j ++ rest) ++ l) m s l
-  row-cell top i j c t rest l m s x y u ih = go (is_pair lent.guards i j) refl
+  row_cell top i j c t rest l m s x y u ih = go (is_pair lent.guards i j) refl
     where
       none : is_pair lent.guards i j ≡ false → Reads top (0 + c) t ((guard_text labels lent.guards i j ++ rest) ++ l) m s l
       none q =
@@ -180,12 +180,12 @@ module _ (n : ℕ) (labels : List ℕ) (lent : Lent) (starts : List ℕ) (ok : W
           apart h (inl l) = absurd (omega (arith, pair_none lent.guards i j q h))
           apart h (inr e) = e
 
-      some-line : is_pair lent.guards i j ≡ true → Reads top (1 + c) t ((guard_text labels lent.guards i j ++ rest) ++ l) m s l
-      some-line q =
+      some_line : is_pair lent.guards i j ≡ true → Reads top (1 + c) t ((guard_text labels lent.guards i j ++ rest) ++ l) m s l
+      some_line q =
           let h = pair_order lent.guards i j q in
           let near = close (ok.network.guard i j x y) h.1 in
           let t₁ = set (set t (cell i j) (at lent.guards (cell i j))) (cell j i) (at lent.guards (cell i j)) in
-          let r = ih t₁ (upto-more i j t h.0 y u) in
+          let r = ih t₁ (upto_more i j t h.0 y u) in
           let text : (guard_text labels lent.guards i j ++ rest) ++ l ≡ pair_text labels lent.guards i j ++ (rest ++ l) = ap (λ (v : List ℕ). (v ++ rest) ++ l) (guard_some labels lent.guards i j q) ∙ append_assoc (pair_text labels lent.guards i j) rest l in
           record {
             then_table = r.then_table;
@@ -193,7 +193,7 @@ module _ (n : ℕ) (labels : List ℕ) (lent : Lent) (starts : List ℕ) (ok : W
             leads = λ k.
                 ap (λ (v : List ℕ). lines step top ((1 + c) + m) k t v) text
                 ∙ ap (λ (v : ℕ). lines step top v k t (pair_text labels lent.guards i j ++ (rest ++ l))) (let z : (1 + c) + m ≡ suc (c + m) = omega arith in z)
-                ∙ one_line top (c + m) k t t₁ (pair_text labels lent.guards i j ++ (rest ++ l)) (rest ++ l) (guard-back i j k t (rest ++ l) h.0 y near u)
+                ∙ one_line top (c + m) k t t₁ (pair_text labels lent.guards i j ++ (rest ++ l)) (rest ++ l) (guard_back i j k t (rest ++ l) h.0 y near u)
                 ∙ r.leads (suc k)
                 ∙ ap (λ (v : ℕ). lines step top m v r.then_table l) (let z : suc k + c ≡ k + (1 + c) = omega arith in z);
           }
@@ -204,7 +204,7 @@ module _ (n : ℕ) (labels : List ℕ) (lent : Lent) (starts : List ℕ) (ok : W
 
       go : (b : Bool) → is_pair lent.guards i j ≡ b → Reads top (cond b 1 0 + c) t ((guard_text labels lent.guards i j ++ rest) ++ l) m s l
       go false q = none q
-      go true q = some-line q
+      go true q = some_line q
 
   row_back : (top i r j : ℕ) (t l : List ℕ) (m : ℕ) → i < n → j + r ≡ n → Upto n lent.guards (cell i j) t
       → Reads top (sum_from r j (mark i)) t (join_from r j (guard_text labels lent.guards i) ++ l) m (cell i n) l
@@ -213,22 +213,22 @@ module _ (n : ℕ) (labels : List ℕ) (lent : Lent) (starts : List ℕ) (ok : W
       let q : j ≡ n = omega arith in
       record { then_table = t; holds = rw q at u; leads = λ k. ap (λ (x : ℕ). lines step top x k t l) (zero-add m) ∙ ap (λ (x : ℕ). lines step top m x t l) (sym (add-zero k)) }
   row_back top i (suc r) j t l m c e u =
-      row-cell top i j (sum_from r (suc j) (mark i)) t (join_from r (suc j) (guard_text labels lent.guards i)) l m (cell i n) c (omega arith) u
+      row_cell top i j (sum_from r (suc j) (mark i)) t (join_from r (suc j) (guard_text labels lent.guards i)) l m (cell i n) c (omega arith) u
       (λ t' v. row_back top i r (suc j) t' l m c (omega arith) (let q : suc (cell i j) ≡ cell i (suc j) = omega arith in rw q at v))
 
-  abbrev rowMarks : ℕ → ℕ
-  rowMarks i = sum (mark i) n
+  abbrev row_marks : ℕ → ℕ
+  row_marks i = sum (mark i) n
 
-  abbrev rowText : ℕ → List ℕ
-  rowText i = join_from n 0 (guard_text labels lent.guards i)
+  abbrev row_text : ℕ → List ℕ
+  row_text i = join_from n 0 (guard_text labels lent.guards i)
 
-  row-marks : (i : ℕ) → rowMarks i ≡ sum_from n 0 (mark i)
+  row_marks_lem : (i : ℕ) → row_marks i ≡ sum_from n 0 (mark i)
   unfolding sum
-  row-marks i = ap (sum (mark i)) (sym (zero-add n)) ∙ sum_from_lem (mark i) n 0 ∙ zero-add (sum_from n 0 (mark i))
+  row_marks_lem i = ap (sum (mark i)) (sym (zero-add n)) ∙ sum_from_lem (mark i) n 0 ∙ zero-add (sum_from n 0 (mark i))
 
-  two-parts : (top a b : ℕ) (t v w l : List ℕ) (m s s' : ℕ) → Reads top a t (v ++ (w ++ l)) (b + m) s (w ++ l)
+  two_parts : (top a b : ℕ) (t v w l : List ℕ) (m s s' : ℕ) → Reads top a t (v ++ (w ++ l)) (b + m) s (w ++ l)
       → ((t' : List ℕ) → Upto n lent.guards s t' → Reads top b t' (w ++ l) m s' l) → Reads top (a + b) t ((v ++ w) ++ l) m s' l
-  two-parts top a b t v w l m s s' p f =
+  two_parts top a b t v w l m s s' p f =
       let q = f p.then_table p.holds in
       record {
         then_table = q.then_table;
@@ -241,16 +241,16 @@ module _ (n : ℕ) (labels : List ℕ) (lent : Lent) (starts : List ℕ) (ok : W
       }
 
   rows_back : (top r i : ℕ) (t l : List ℕ) (m : ℕ) → i + r ≡ n → Upto n lent.guards (cell i 0) t
-      → Reads top (sum_from r i rowMarks) t (join_from r i rowText ++ l) m (cell n 0) l
+      → Reads top (sum_from r i row_marks) t (join_from r i row_text ++ l) m (cell n 0) l
   unfolding sum_from join_from
   rows_back top zero i t l m e u =
       let q : i ≡ n = omega arith in
       record { then_table = t; holds = rw q at u; leads = λ k. ap (λ (x : ℕ). lines step top x k t l) (zero-add m) ∙ ap (λ (x : ℕ). lines step top m x t l) (sym (add-zero k)) }
   rows_back top (suc r) i t l m e u =
-      rw (row-marks i)
-      (two-parts top (sum_from n 0 (mark i)) (sum_from r (suc i) rowMarks) t (rowText i) (join_from r (suc i) rowText) l m (cell i n) (cell n 0)
-      (row_back top i n 0 t (join_from r (suc i) rowText ++ l) (sum_from r (suc i) rowMarks + m) (omega arith) (zero-add n) u)
-      (λ t' v. rows_back top r (suc i) t' l m (omega arith) (upto-row i t' v)))
+      rw (row_marks_lem i)
+      (two_parts top (sum_from n 0 (mark i)) (sum_from r (suc i) row_marks) t (row_text i) (join_from r (suc i) row_text) l m (cell i n) (cell n 0)
+      (row_back top i n 0 t (join_from r (suc i) row_text ++ l) (sum_from r (suc i) row_marks + m) (omega arith) (zero-add n) u)
+      (λ t' v. rows_back top r (suc i) t' l m (omega arith) (upto_row i t' v)))
 
   -- the table at the end
   all_set : (t : List ℕ) → Upto n lent.guards (cell n 0) t → t ≡ kept_guards n lent.guards
@@ -284,9 +284,9 @@ module _ (n : ℕ) (labels : List ℕ) (lent : Lent) (starts : List ℕ) (ok : W
       go c l a b p q (yes x) (no y) = outer c a b (omega arith) (omega arith) (omega arith) (inr (omega arith)) (dec_lt a b) (dec_lt b a) ∙ sym (square_column n lent.guards c (omega arith))
 
   -- all guard lines, written and read
-  pub guards_back : (top : ℕ) (l : List ℕ) → lines step top (pairs n lent.guards) 0 (cleared 16384 255) (join_from n 0 rowText ++ l) ≡ done (kept_guards n lent.guards) l
+  pub guards_back : (top : ℕ) (l : List ℕ) → lines step top (pairs n lent.guards) 0 (cleared 16384 255) (join_from n 0 row_text ++ l) ≡ done (kept_guards n lent.guards) l
   unfolding pairs lines sum
   guards_back top l =
-      let r = rows_back top n 0 (cleared 16384 255) l 0 (zero-add n) upto-none in
-      let e : sum rowMarks n ≡ sum_from n 0 rowMarks + 0 = ap (sum rowMarks) (sym (zero-add n)) ∙ sum_from_lem rowMarks n 0 ∙ omega arith in
-      ap (λ (m : ℕ). lines step top m 0 (cleared 16384 255) (join_from n 0 rowText ++ l)) e ∙ r.leads 0 ∙ ap (λ (t : List ℕ). done t l) (all_set r.then_table r.holds)
+      let r = rows_back top n 0 (cleared 16384 255) l 0 (zero-add n) upto_none in
+      let e : sum row_marks n ≡ sum_from n 0 row_marks + 0 = ap (sum row_marks) (sym (zero-add n)) ∙ sum_from_lem row_marks n 0 ∙ omega arith in
+      ap (λ (m : ℕ). lines step top m 0 (cleared 16384 255) (join_from n 0 row_text ++ l)) e ∙ r.leads 0 ∙ ap (λ (t : List ℕ). done t l) (all_set r.then_table r.holds)

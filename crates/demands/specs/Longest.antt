@@ -60,8 +60,8 @@ marks_sum b n f g h =
     omega (arith, ap (λ (x : ℕ). b * x) e, join_marks b n 0 f g (λ i l. h i (omega arith)))
 
 module _ (n : ℕ) (labels : List ℕ) (lent : Lent) (starts : List ℕ) (ok : Writable n labels lent starts) where
-  guard-most : (i j : ℕ) → i < n → j < n → length (guard_text labels lent.guards i j) ≤ 21 * cond (is_pair lent.guards i j) 1 0
-  guard-most i j x y = go (is_pair lent.guards i j) refl (ok.network.guard i j x y)
+  guard_most : (i j : ℕ) → i < n → j < n → length (guard_text labels lent.guards i j) ≤ 21 * cond (is_pair lent.guards i j) 1 0
+  guard_most i j x y = go (is_pair lent.guards i j) refl (ok.network.guard i j x y)
     where
       go : (b : Bool) → is_pair lent.guards i j ≡ b → (at lent.guards (cell i j) ≤ 32) ⊎ (at lent.guards (cell i j) ≡ 255) → length (guard_text labels lent.guards i j) ≤ 21 * cond b 1 0
       go false e k = omega (arith, ap length (guard_none labels lent.guards i j e))
@@ -69,20 +69,20 @@ module _ (n : ℕ) (labels : List ℕ) (lent : Lent) (starts : List ℕ) (ok : W
       go true e (inl k) =
           omega (arith, ap length (guard_some labels lent.guards i j e), pair_length labels lent.guards i j, label_short labels i, label_short labels j, two_digits (at lent.guards (cell i j)) (omega arith))
 
-  guards-most : length (join_from n 0 (λ i. join_from n 0 (guard_text labels lent.guards i))) ≤ 21 * pairs n lent.guards
+  guards_most : length (join_from n 0 (λ i. join_from n 0 (guard_text labels lent.guards i))) ≤ 21 * pairs n lent.guards
   unfolding pairs
-  guards-most =
+  guards_most =
       marks_sum 21 n (λ i. join_from n 0 (guard_text labels lent.guards i)) (λ i. sum (λ j. cond (is_pair lent.guards i j) 1 0) n)
-      (λ i x. marks_sum 21 n (guard_text labels lent.guards i) (λ j. cond (is_pair lent.guards i j) 1 0) (λ j y. guard-most i j x y))
+      (λ i x. marks_sum 21 n (guard_text labels lent.guards i) (λ j. cond (is_pair lent.guards i j) 1 0) (λ j y. guard_most i j x y))
 
-  paths-most : length (join_from n 0 (path_text labels lent.widths)) ≤ n * 12
-  paths-most =
+  paths_most : length (join_from n 0 (path_text labels lent.widths)) ≤ n * 12
+  paths_most =
       join_most 12 n 0 (path_text labels lent.widths)
       (λ k l. let x : k < n = omega arith in omega (arith, path_length labels lent.widths k, label_short labels k, two_digits (at lent.widths k) (omega (arith, (ok.network.width k x).1))))
 
-  starts-most : length (starts_text n labels starts) ≤ n * 15 + 11
+  starts_most : length (starts_text n labels starts) ≤ n * 15 + 11
   unfolding starts_text
-  starts-most = go (has_plan n starts) refl
+  starts_most = go (has_plan n starts) refl
     where
       J : List ℕ
       J = join_from n 0 (path_text labels starts)
@@ -114,9 +114,9 @@ module _ (n : ℕ) (labels : List ℕ) (lent : Lent) (starts : List ℕ) (ok : W
         three_digits n (omega arith),
         count_length guards_word (pairs n lent.guards),
         four_digits (pairs n lent.guards) (omega arith),
-        paths-most,
-        guards-most,
-        starts-most,
+        paths_most,
+        guards_most,
+        starts_most,
       )
 
 -- the two calls: no written sheet is longer, and a text of 45,489 bytes has room for every sheet that some

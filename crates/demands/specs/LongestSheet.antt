@@ -27,7 +27,7 @@ use Rattle.demands.specs.Longest.{two_digits, three_digits, four_digits}
 use Rattle.demands.specs.ReadBack.{run_bytes}
 use Rattle.demands.specs.Forms.{LabelByte, Label, bytes_all, CountForm, PathForm, GuardForm, line_text, pair_line}
 use Rattle.demands.specs.OnLines.{HasLabel, FirstRight, start, more, path_says, guard_says, start_says}
-use Rattle.demands.specs.OnReading.{SheetTables, SheetRight, sizes_right, GuardsRight, withoutPlan, withPlan, reading_right}
+use Rattle.demands.specs.OnReading.{SheetTables, SheetRight, sizes_right, GuardsRight, without_plan, with_plan, reading_right}
 use Rattle.demands.specs.ReadCells.{path_put, guard_put, start_put}
 
 -- How long a line of the form is
@@ -87,8 +87,8 @@ guarded_short l n labels widths m guards l₄ g =
     )
 
 sheet_short : (l : List ℕ) (t : ℕ × List ℕ × Lent × List ℕ) → SheetRight l t → length l ≤ 45489
-sheet_short l t (withoutPlan n labels widths m guards g) = omega (arith, guarded_short l n labels widths m guards [] g, g.paths.most, g.most)
-sheet_short l t (withPlan n labels widths m guards starts s) =
+sheet_short l t (without_plan n labels widths m guards g) = omega (arith, guarded_short l n labels widths m guards [] g, g.paths.most, g.most)
+sheet_short l t (with_plan n labels widths m guards starts s) =
     let g = s.guarded in
     omega (
       arith,

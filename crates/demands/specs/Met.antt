@@ -24,15 +24,15 @@ module _ (net : Net) (n : ℕ) (good : Good net n) (lows : (k : ℕ) → k < n �
   start zero = 1
   start (suc m) = start m + net.width (o m) + net.guard (o m) (o (suc m))
 
-  start-pos : (m : ℕ) → 1 ≤ start m
+  start_pos : (m : ℕ) → 1 ≤ start m
   unfolding start
-  start-pos zero = omega arith
-  start-pos (suc m) = omega (arith, start-pos m)
+  start_pos zero = omega arith
+  start_pos (suc m) = omega (arith, start_pos m)
 
   ends : (m : ℕ) → m < n → end net (o m) (start m) ≡ sum (λ i. net.width (o i)) (suc m) + sum (λ i. net.guard (o i) (o (suc i))) m
   unfolding start sum
   ends zero l = omega (arith, good.wide (o 0) (ord.inside 0 l))
-  ends (suc m) l = omega (arith, ends m (omega arith), good.wide (o m) (ord.inside m (omega arith)), good.wide (o (suc m)) (ord.inside (suc m) l), start-pos m)
+  ends (suc m) l = omega (arith, ends m (omega arith), good.wide (o m) (ord.inside m (omega arith)), good.wide (o (suc m)) (ord.inside (suc m) l), start_pos m)
 
   -- each is clear of all below it, not only of the one before
   above : (i j : ℕ) → i < j → j < n → end net (o i) (start i) + net.guard (o i) (o j) < start j
@@ -45,7 +45,7 @@ module _ (net : Net) (n : ℕ) (good : Good net n) (lows : (k : ℕ) → k < n �
 
       go : Dec (i ≡ m) → (i < m → end net (o i) (start i) + net.guard (o i) (o m) < start m)
           → end net (o i) (start i) + net.guard (o i) (o (suc m)) < start m + net.width (o m) + net.guard (o m) (o (suc m))
-      go (yes e) ih = rw e (omega (arith, wide m (omega arith), start-pos m))
+      go (yes e) ih = rw e (omega (arith, wide m (omega arith), start_pos m))
       go (no ne) ih = omega (
         arith,
         ih (omega arith),
@@ -64,17 +64,17 @@ module _ (net : Net) (n : ℕ) (good : Good net n) (lows : (k : ℕ) → k < n �
   pub stack : ℕ → ℕ
   stack k = start (spot o n k)
 
-  at-spot : (k : ℕ) → k < n → (spot o n k < n) × (o (spot o n k) ≡ k)
-  at-spot k l = spot_holds o n (place o n ord) k l
+  at_spot : (k : ℕ) → k < n → (spot o n k < n) × (o (spot o n k) ≡ k)
+  at_spot k l = spot_holds o n (place o n ord) k l
 
   pub stack_valid : Valid net n stack
   unfolding stack
-  stack_valid = record { lows = λ k l. omega (arith, lows k l, start-pos (spot o n k)); apart = λ i j h l c. apart i j h l }
+  stack_valid = record { lows = λ k l. omega (arith, lows k l, start_pos (spot o n k)); apart = λ i j h l c. apart i j h l }
     where
       clear : (i j : ℕ) → i < n → j < n → spot o n i < spot o n j → end net i (start (spot o n i)) + net.guard i j < start (spot o n j)
       clear i j h l g =
-          let x = at-spot i h in
-          let y = at-spot j l in
+          let x = at_spot i h in
+          let y = at_spot j l in
           rw (x.1, y.1) at (above (spot o n i) (spot o n j) g y.0)
 
       apart : (i j : ℕ) → i < j → j < n → Clear net stack i j ⊎ Clear net stack j i
@@ -83,7 +83,7 @@ module _ (net : Net) (n : ℕ) (good : Good net n) (lows : (k : ℕ) → k < n �
           go : Dec (spot o n i < spot o n j) → Dec (spot o n j < spot o n i) → Clear net stack i j ⊎ Clear net stack j i
           go (yes g) d = inl (unfold stack in clear i j (omega arith) l g)
           go (no g) (yes d) = inr (unfold stack in clear j i l (omega arith) d)
-          go (no g) (no d) = absurd (omega (arith, ap o (same g d), (at-spot i (omega arith)).1, (at-spot j l).1))
+          go (no g) (no d) = absurd (omega (arith, ap o (same g d), (at_spot i (omega arith)).1, (at_spot j l).1))
             where
               same : (spot o n i < spot o n j → ⊥) → (spot o n j < spot o n i → ⊥) → spot o n i ≡ spot o n j
               same g d = omega arith
@@ -96,6 +96,6 @@ module _ (net : Net) (n : ℕ) (good : Good net n) (lows : (k : ℕ) → k < n �
 
       each : (k : ℕ) → k < n → end net k (stack k) ≤ sum (λ i. net.width (o i)) n + sum (λ i. net.guard (o i) (o (suc i))) (n - 1)
       each k l = unfold stack in (
-          let x = at-spot k l in
+          let x = at_spot k l in
           omega (arith, rw x.1 at (rises (spot o n k) (n - 1) (omega arith) (omega arith)), rw last at (ends (n - 1) (omega arith)))
           )

@@ -17,8 +17,8 @@ mirror net n p k = highest net p n - end net k (p k) + 1
 
 module _ (net : Net) (n : ℕ) (good : Good net n) (ones : (k : ℕ) → k < n → net.low k ≡ 1) where
   module _ (o r : ℕ → ℕ) (ord : Order o n n) (rord : Order r n n) (rev : Reversed o r n) where
-    mirror-keeps : (p : ℕ → ℕ) → Keeps net n o p → Keeps net n r (mirror net n p)
-    mirror-keeps p keeps i j h l =
+    mirror_keeps : (p : ℕ → ℕ) → Keeps net n o p → Keeps net n r (mirror net n p)
+    mirror_keeps p keeps i j h l =
         let a = n - 1 - i in
         let b = n - 1 - j in
         let ha : a < n = omega arith in
@@ -35,7 +35,7 @@ module _ (net : Net) (n : ℕ) (good : Good net n) (ones : (k : ℕ) → k < n �
     half : (t u : List ℕ) → n ≤ length t → n ≤ length u
         → highest net (at (packed (lowest net) r u n)) n ≤ highest net (at (packed (lowest net) o t n)) n
     half t u room space =
-        highest_le net _ n _ (λ k l. omega (arith, packed_least net n r rord u space (mirror net n p) (λ k l. omega (arith, ones k l)) (mirror-keeps p keeps) k l, good.wide k l, highest_ge net p n k l, valid.lows k l, ones k l))
+        highest_le net _ n _ (λ k l. omega (arith, packed_least net n r rord u space (mirror net n p) (λ k l. omega (arith, ones k l)) (mirror_keeps p keeps) k l, good.wide k l, highest_ge net p n k l, valid.lows k l, ones k l))
       where
         p : ℕ → ℕ
         p = at (packed (lowest net) o t n)

@@ -76,8 +76,8 @@ untold true t n = absurd (n (t.holds refl))
 untold false t n = refl
 
 module _ (n : ℕ) (lent : Lent) (list : List ℕ) where
-  member-fine : Floorable n lent list → (k : ℕ) → k < length list → bad_member n (net_of lent) list k ≡ false
-  member-fine f k l = untold _ (tells_member n (net_of lent) list k) none
+  member_fine : Floorable n lent list → (k : ℕ) → k < length list → bad_member n (net_of lent) list k ≡ false
+  member_fine f k l = untold _ (tells_member n (net_of lent) list k) none
     where
       -- two paths in conflict are not the same path
       joined : (i : ℕ) → i < k → (at list i ≡ at list k) ⊎ (Conflict (net_of lent) (at list i) (at list k) → ⊥) → ⊥
@@ -98,7 +98,7 @@ module _ (n : ℕ) (lent : Lent) (list : List ℕ) where
       clear f = unfold floor_fault list_fault in
           (or_none (lent_fault n lent no_fault) _ (clear_lent n lent no_fault f.network refl)
           (or_none _ _ (clear_of (refuse_not (outside 1 8 (length list)) 15 0 (outside_none 1 8 (length list) f.some f.few)))
-          (clear_of (scan_none 15 (bad_member n (net_of lent) list) (length list) (member-fine f)))))
+          (clear_of (scan_none 15 (bad_member n (net_of lent) list) (length list) (member_fine f)))))
 
 -- the writer
 pub writing_exact : (n : ℕ) (labels : List ℕ) (lent : Lent) (starts text : List ℕ)

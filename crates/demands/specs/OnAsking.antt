@@ -31,7 +31,7 @@ use Rattle.demands.specs.Tests.{told}
 use Rattle.demands.specs.OnShort.{explaining_judges}
 use Rattle.demands.specs.OnExplaining.{named, packing_ends}
 use Rattle.demands.specs.ReadCells.{reading_writable}
-use Rattle.demands.specs.OnProgram.{input_read, own_tables, plan, plannedStarts, program_plans, printed_starts, printed_valid, printed_packed, printed_read}
+use Rattle.demands.specs.OnProgram.{input_read, own_tables, plan, planned_starts, program_plans, printed_starts, printed_valid, printed_packed, printed_read}
 use Rattle.demands.specs.OnPlanning.{planning_highest}
 
 -- a sheet that was read: a plan that stands in it is valid or has a clash, and where none stands 7 is the number
@@ -80,9 +80,9 @@ module _ (labels name text : List ℕ) (x p s : ℕ) where
   unfolding refused_text
   says_clash e = rw e
 
-  says-unknown : x ≡ 6 → cond (eqb x 0) text (refused_text labels name x p s) ≡ unknown_text name
+  says_unknown : x ≡ 6 → cond (eqb x 0) text (refused_text labels name x p s) ≡ unknown_text name
   unfolding refused_text
-  says-unknown e = rw e
+  says_unknown e = rw e
 
 -- 6: a plan that is judged valid, and no such path
 no_path : (n : ℕ) (lent : Lent) (starts : List ℕ) (path : ℕ) (table : List ℕ) → (judging n lent starts).number ≡ 0 → length table ≡ 128 → n ≤ path
@@ -135,42 +135,42 @@ module _ (input : List ℕ) (read : (input_read input).answer.number ≡ 0) wher
   why_refused : (name : List ℕ) (x : ℕ) → (judging n lent starts).number ≡ x → 0 < x → (explaining n lent starts (find labels n name) (cleared 128 0)).answer.number ≡ x
   why_refused name x z some = ap (λ (f : Fault). f.number) (same name (λ q. omega (arith, z, q))) ∙ z
 
-  judge-text : (second : List ℕ) → asked 1 judge_word second input ≡ judge_text n labels lent starts
+  judge_text_lem : (second : List ℕ) → asked 1 judge_word second input ≡ judge_text n labels lent starts
   unfolding on_sheet
-  judge-text second = judge_asked second input ∙ rw (eq-eqb (input_read input).answer.number 0 read)
+  judge_text_lem second = judge_asked second input ∙ rw (eq-eqb (input_read input).answer.number 0 read)
 
-  why-text : (name : List ℕ) → is_whole (label name) ≡ true → asked 2 why_word name input ≡ why_text name n labels lent starts
+  why_text_lem : (name : List ℕ) → is_whole (label name) ≡ true → asked 2 why_word name input ≡ why_text name n labels lent starts
   unfolding on_sheet
-  why-text name e = why_asked name input e ∙ rw (eq-eqb (input_read input).answer.number 0 read)
+  why_text_lem name e = why_asked name input e ∙ rw (eq-eqb (input_read input).answer.number 0 read)
 
   -- no plan stands in it: both words say so
   pub asked_none : has_plan n starts ≡ false → ((second : List ℕ) → asked 1 judge_word second input ≡ no_plan_text) × ((name : List ℕ) → is_whole (label name) ≡ true → asked 2 why_word name input ≡ no_plan_text)
   asked_none e =
       let seven = judged_none n labels lent starts w e in
-      (λ second. judge-text second ∙ (unfold judge_text in (says_none labels [] _ _ _ _ seven)), λ name q. why-text name q ∙ (unfold why_text in (says_none labels name _ _ _ _ (why_refused name 7 seven (omega arith)))))
+      (λ second. judge_text_lem second ∙ (unfold judge_text in (says_none labels [] _ _ _ _ seven)), λ name q. why_text_lem name q ∙ (unfold why_text in (says_none labels name _ _ _ _ (why_refused name 7 seven (omega arith)))))
 
   -- the first pair that clashes, with as many slots as it is short: both words name it
   pub asked_clash : (judging n lent starts).number ≡ 8
       → ((second : List ℕ) → asked 1 judge_word second input ≡ clash_text labels (judging n lent starts).place (judging n lent starts).short)
       × ((name : List ℕ) → is_whole (label name) ≡ true → asked 2 why_word name input ≡ clash_text labels (judging n lent starts).place (judging n lent starts).short)
-  asked_clash z = (λ second. judge-text second ∙ (unfold judge_text in (says_clash labels [] _ _ _ _ z)), λ name q. why-text name q ∙ why-clash name)
+  asked_clash z = (λ second. judge_text_lem second ∙ (unfold judge_text in (says_clash labels [] _ _ _ _ z)), λ name q. why_text_lem name q ∙ why_clash name)
     where
-      why-clash : (name : List ℕ) → why_text name n labels lent starts ≡ clash_text labels (judging n lent starts).place (judging n lent starts).short
-      why-clash name = unfold why_text in
+      why_clash : (name : List ℕ) → why_text name n labels lent starts ≡ clash_text labels (judging n lent starts).place (judging n lent starts).short
+      why_clash name = unfold why_text in
           (says_clash labels name _ _ _ _ (why_refused name 8 z (omega arith))
           ∙ ap (λ (f : Fault). clash_text labels f.place f.short) (same name (λ q. omega (arith, z, q))))
 
   -- a valid plan: the highest slot
   pub asked_valid : has_plan n starts ≡ true → Valid (net_of lent) n (at starts) → (second : List ℕ) → asked 1 judge_word second input ≡ valid_text (highest (net_of lent) (at starts) n)
   unfolding judge_text
-  asked_valid e v second = judge-text second ∙ rw (eq-eqb (judging n lent starts).number 0 (judged_valid e v))
+  asked_valid e v second = judge_text_lem second ∙ rw (eq-eqb (judging n lent starts).number 0 (judged_valid e v))
 
   -- and the reason that the call gives for the path of a label; or that no path has it
   pub asked_why : (name : List ℕ) → is_whole (label name) ≡ true → (explaining n lent starts (find labels n name) (cleared 128 0)).answer.number ≡ 0
       → asked 2 why_word name input
       ≡ reason_text labels (net_of lent) (at starts) (named (explaining n lent starts (find labels n name) (cleared 128 0))) (explaining n lent starts (find labels n name) (cleared 128 0)).answer.down
   unfolding why_text
-  asked_why name q z = why-text name q ∙ rw (eq-eqb (explaining n lent starts (find labels n name) (cleared 128 0)).answer.number 0 z)
+  asked_why name q z = why_text_lem name q ∙ rw (eq-eqb (explaining n lent starts (find labels n name) (cleared 128 0)).answer.number 0 z)
 
   pub asked_known : has_plan n starts ≡ true → Valid (net_of lent) n (at starts) → (name : List ℕ) → find labels n name < n → (explaining n lent starts (find labels n name) (cleared 128 0)).answer.number ≡ 0
   unfolding done_why
@@ -181,7 +181,7 @@ module _ (input : List ℕ) (read : (input_read input).answer.number ≡ 0) wher
 
   pub asked_unknown : has_plan n starts ≡ true → Valid (net_of lent) n (at starts) → (name : List ℕ) → is_whole (label name) ≡ true → n ≤ find labels n name → asked 2 why_word name input ≡ unknown_text name
   asked_unknown e v name q l =
-      why-text name q ∙ (unfold why_text in (says-unknown labels name _ _ _ _ (no_path n lent starts (find labels n name) (cleared 128 0) (judged_valid e v) (cleared_length 128 0) l)))
+      why_text_lem name q ∙ (unfold why_text in (says_unknown labels name _ _ _ _ (no_path n lent starts (find labels n name) (cleared 128 0) (judged_valid e v) (cleared_length 128 0) l)))
 
 -- the line of a clash names the two paths of its cell
 pub clash_names : (labels : List ℕ) (i j s : ℕ) → j < 128 → clash_text labels (128 * i + j) s ≡ label_of labels i ++ (bytes " and " ++ (label_of labels j ++ (bytes " clash: " ++ (slots_text s ++ bytes " short.\n"))))
@@ -194,7 +194,7 @@ clash_names labels i j s l =
 -- What the plan program printed, asked about: the plan is valid, with the highest slot that planning answered,
 -- and the chain of every path ends in slot 1
 module _ (input : List ℕ) (read : (input_read input).answer.number ≡ 0) where
-  again : input_read (printed input) ≡ left (record { number = 0; place = 0; n = (input_read input).answer.n }) ((input_read input).tables.0, (input_read input).tables.1, plannedStarts input read)
+  again : input_read (printed input) ≡ left (record { number = 0; place = 0; n = (input_read input).answer.n }) ((input_read input).tables.0, (input_read input).tables.1, planned_starts input read)
   again = printed_read input read (cleared 1024 0) (lend (cleared 128 0) (cleared 16384 0)) (cleared 128 0) own_tables
 
   pub asked_planned : (second : List ℕ) → asked 1 judge_word second (printed input) ≡ valid_text (plan input read).answer.highest
@@ -203,18 +203,18 @@ module _ (input : List ℕ) (read : (input_read input).answer.number ≡ 0) wher
       judge_asked second (printed input)
       ∙ rw (
         again,
-        eq-eqb (judging (input_read input).answer.n (input_read input).tables.1 (plannedStarts input read)).number 0 judged,
+        eq-eqb (judging (input_read input).answer.n (input_read input).tables.1 (planned_starts input read)).number 0 judged,
         ← planning_highest (input_read input).answer.n (input_read input).tables.1 (cleared 128 0) (input_read input).tables.2 1 1000 (program_plans input read),
       )
     where
       p : Packable (input_read input).answer.n (input_read input).tables.1 (printed_packed input read).0 (input_read input).tables.2
       p = (printed_packed input read).1
 
-      judged : (judging (input_read input).answer.n (input_read input).tables.1 (plannedStarts input read)).number ≡ 0
+      judged : (judging (input_read input).answer.n (input_read input).tables.1 (planned_starts input read)).number ≡ 0
       judged = judgeable_judging _ _ _ (record { network = p.network; legal = printed_starts input read; valid = printed_valid input read })
 
   pub asked_slot_1 : (k : ℕ) → k < (input_read input).answer.n
-      → at (plannedStarts input read) (last (named (explaining (input_read input).answer.n (input_read input).tables.1 (plannedStarts input read) k (cleared 128 0)))) ≡ 1
+      → at (planned_starts input read) (last (named (explaining (input_read input).answer.n (input_read input).tables.1 (planned_starts input read) k (cleared 128 0)))) ≡ 1
   unfolding done_packed
   asked_slot_1 k l =
       let n = (input_read input).answer.n in
@@ -223,6 +223,6 @@ module _ (input : List ℕ) (read : (input_read input).answer.number ≡ 0) wher
       let order = (printed_packed input read).0 in
       let p = (printed_packed input read).1 in
       let is = packable_packing n lent order starts p in
-      let same : plannedStarts input read ≡ (packing n lent order starts).tables = (printed_packed input read).2 ∙ sym (ap (λ r. r.tables) is) in
+      let same : planned_starts input read ≡ (packing n lent order starts).tables = (printed_packed input read).2 ∙ sym (ap (λ r. r.tables) is) in
       ap (λ (t : List ℕ). at t (last (named (explaining n lent t k (cleared 128 0))))) same
       ∙ packing_ends n lent order starts (ap (λ r. r.answer.number) is) k (cleared 128 0) l (cleared_length 128 0)

@@ -26,9 +26,9 @@ module _ (n : ℕ) (lent : Lent) (order starts others : List ℕ) (same : length
   unfolding pack_fault plan_sizes size_fault
   fault_same = rw same
 
-  no-higher : (t u : List ℕ) → n ≤ length t → n ≤ length u → Order (at order) n n
+  no_higher : (t u : List ℕ) → n ≤ length t → n ≤ length u → Order (at order) n n
       → (k : ℕ) → k < n → at (packed (lowest (net_of lent)) (at order) t n) k ≤ at (packed (lowest (net_of lent)) (at order) u n) k
-  no-higher t u room space ord =
+  no_higher t u room space ord =
       let r = respected (net_of lent) n (at order) ord u space in
       packed_least (net_of lent) n (at order) ord t room _ (respects_lows (net_of lent) n (at order) ord _ r) (respects_keeps (net_of lent) n (at order) ord _ r)
 
@@ -37,7 +37,7 @@ module _ (n : ℕ) (lent : Lent) (order starts others : List ℕ) (same : length
   agree p k l =
       let room : n ≤ length starts = omega (arith, p.starts_size, p.network.few) in
       let space : n ≤ length others = omega (arith, p.starts_size, p.network.few) in
-      omega (arith, no-higher starts others room space p.whole k l, no-higher others starts space room p.whole k l)
+      omega (arith, no_higher starts others room space p.whole k l, no_higher others starts space room p.whole k l)
 
   other : Packable n lent order starts → Packable n lent order others
   other p = record { network = p.network; order_size = p.order_size; starts_size = sym same ∙ p.starts_size; whole = p.whole }
@@ -83,10 +83,10 @@ module _ (n : ℕ) (lent : Lent) (first second part : Bor (List ℕ)) (better : 
   better_second y z l = rw (eq-eqb one.number 0 y, eq-eqb two.number 0 z, lt-ltb two.highest one.highest l) at better
 
   -- where a packing of either is refused: an empty part of the first
-  refused-part : (one.number ≢ 0) ⊎ (two.number ≢ 0) → Part first 0 part
+  refused_part : (one.number ≢ 0) ⊎ (two.number ≢ 0) → Part first 0 part
   unfolding Bettered comparing
-  refused-part (inl y) = rw (ne_eqb one.number 0 y) at better
-  refused-part (inr z) = go (eqb one.number 0) (rw (ne_eqb two.number 0 z) at better)
+  refused_part (inl y) = rw (ne_eqb one.number 0 y) at better
+  refused_part (inr z) = go (eqb one.number 0) (rw (ne_eqb two.number 0 z) at better)
     where
       go : (b : Bool)
           → Part (cond (eqb (cond {A = ℕ} (not b || true) 0 (cond (ltb two.highest one.highest) 2 1)) 2) second first)
@@ -96,12 +96,12 @@ module _ (n : ℕ) (lent : Lent) (first second part : Bor (List ℕ)) (better : 
       go false h = h
 
   pub better_nothing : (one.number ≢ 0) ⊎ (two.number ≢ 0) → (part.ref_ptr ≡ first.ref_ptr) × (part.now ≡ [])
-  better_nothing h = let p = refused-part h in (p.place, p.cells)
+  better_nothing h = let p = refused_part h in (p.place, p.cells)
 
   -- and the part is empty there alone
-  some-cells : (order : List ℕ) → (packed_answer n lent order).number ≡ 0 → part.now ≡ take n order → part.now ≡ [] → ⊥
+  some_cells : (order : List ℕ) → (packed_answer n lent order).number ≡ 0 → part.now ≡ take n order → part.now ≡ [] → ⊥
   unfolding packed_answer
-  some-cells order z e empty =
+  some_cells order z e empty =
       let p = packing_packable n lent order (cleared 128 0) z in
       omega (arith, ap length e, ap length empty, length-take n order, p.network.some, p.network.few, p.order_size)
 
@@ -111,5 +111,5 @@ module _ (n : ℕ) (lent : Lent) (first second part : Bor (List ℕ)) (better : 
       go : part.now ≡ [] → Dec (one.number ≡ 0) → Dec (two.number ≡ 0) → Dec (two.highest < one.highest) → (one.number ≢ 0) ⊎ (two.number ≢ 0)
       go e (no y) d c = inl y
       go e (yes y) (no z) c = inr z
-      go e (yes y) (yes z) (yes l) = absurd (some-cells second.now z (better_second y z l).cells e)
-      go e (yes y) (yes z) (no l) = absurd (some-cells first.now y (better_first y z (omega arith)).cells e)
+      go e (yes y) (yes z) (yes l) = absurd (some_cells second.now z (better_second y z l).cells e)
+      go e (yes y) (yes z) (no l) = absurd (some_cells first.now y (better_first y z (omega arith)).cells e)

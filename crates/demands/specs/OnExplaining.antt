@@ -43,24 +43,24 @@ module _ (n : ℕ) (lent : Lent) (starts : List ℕ) (path : ℕ) (table : List 
   is : why ≡ done_why net (at starts) n path table
   is = explainable_explaining n lent starts path table e
 
-  named-is : named why ≡ chain net (at starts) n path
+  named_is : named why ≡ chain net (at starts) n path
   unfolding done_why
-  named-is = ap named is ∙ take-append_seam (chain net (at starts) n path) (drop (length (chain net (at starts) n path)) table)
+  named_is = ap named is ∙ take-append_seam (chain net (at starts) n path) (drop (length (chain net (at starts) n path)) table)
 
   -- Each step is the link of the lowest number, and the last path stands in slot 1 or has none; and no other
   -- list of paths is such a chain
   pub explaining_chain : Chain net (at starts) n path (named why)
-  explaining_chain = subst (Chain net (at starts) n path) (sym named-is) (chain_is net (at starts) n path e.inside)
+  explaining_chain = subst (Chain net (at starts) n path) (sym named_is) (chain_is net (at starts) n path e.inside)
 
   pub explaining_only : (c : List ℕ) → Chain net (at starts) n path c → c ≡ named why
-  explaining_only c h = chain_only net (at starts) n path c e.inside h ∙ sym named-is
+  explaining_only c h = chain_only net (at starts) n path c e.inside h ∙ sym named_is
 
   -- it has at most n paths, as many as the answer says, and their starts fall
   pub explaining_length : (why.answer.length ≡ length (named why)) × (why.answer.length ≤ n)
   unfolding done_why
   explaining_length =
       let l : why.answer.length ≡ length (chain net (at starts) n path) = ap (λ (r : Left Why (List ℕ)). r.answer.length) is in
-      (l ∙ sym (ap length named-is), omega (arith, l, chain_few net (at starts) n path))
+      (l ∙ sym (ap length named_is), omega (arith, l, chain_few net (at starts) n path))
 
   pub explaining_falls : (i : ℕ) → suc i < length (named why) → at starts (at (named why) (suc i)) < at starts (at (named why) i)
   explaining_falls i l = (explaining_chain.links i l).lower
@@ -87,7 +87,7 @@ module _ (n : ℕ) (lent : Lent) (starts : List ℕ) (path : ℕ) (table : List 
   -- it is in slot 1 or just past a path below it and their guard
   down_is : why.answer.down ≡ down net (at starts) n (last (named why))
   unfolding done_why
-  down_is = ap (λ (r : Left Why (List ℕ)). r.answer.down) is ∙ ap (λ (c : List ℕ). down net (at starts) n (last c)) (sym named-is)
+  down_is = ap (λ (r : Left Why (List ℕ)). r.answer.down) is ∙ ap (λ (c : List ℕ). down net (at starts) n (last c)) (sym named_is)
 
   pub explaining_down : (s : ℕ) → s ≤ at starts (last (named why)) → CanStand net (at starts) n (last (named why)) s ↔ (at starts (last (named why)) ≤ s + why.answer.down)
   explaining_down s l = rw down_is (down_stands net n good (at starts) e.valid (last (named why)) last_path s l)
@@ -145,16 +145,16 @@ module _ (n : ℕ) (lent : Lent) (order starts : List ℕ) (zero-answer : (packi
         table_size = size;
       }))
 
-  plan-is : plan ≡ packed (lowest (net_of lent)) (at order) starts n
+  plan_is : plan ≡ packed (lowest (net_of lent)) (at order) starts n
   unfolding done_packed
-  plan-is = ap (λ r. r.tables) (packable_packing n lent order starts p)
+  plan_is = ap (λ r. r.tables) (packable_packing n lent order starts p)
 
   pub packing_ends : at plan (last (named (explaining n lent plan path table))) ≡ 1
   packing_ends =
-      packed-last plan plan-is (named (explaining n lent plan path table)) (explaining_chain n lent plan path table packing_explained)
+      packed_last plan plan_is (named (explaining n lent plan path table)) (explaining_chain n lent plan path table packing_explained)
     where
-      packed-last : (t : List ℕ) → t ≡ packed (lowest (net_of lent)) (at order) starts n → (c : List ℕ) → Chain (net_of lent) (at t) n path c → at t (last c) ≡ 1
-      packed-last t q c h =
+      packed_last : (t : List ℕ) → t ≡ packed (lowest (net_of lent)) (at order) starts n → (c : List ℕ) → Chain (net_of lent) (at t) n path c → at t (last c) ≡ 1
+      packed_last t q c h =
           ap (λ (s : List ℕ). at s (last c)) q
           ∙ packed_ends (net_of lent) n (network_good n lent p.network) (at order) p.whole starts (omega (arith, p.starts_size, p.network.few)) path c inside
           (subst (λ (s : List ℕ). Chain (net_of lent) (at s) n path c) q h)
@@ -173,13 +173,13 @@ module _ (n : ℕ) (lent : Lent) (starts : List ℕ) (zero-answer : (pressing n 
       (explainable_explaining n lent plan' path table (record { network = j.network; legal = j.legal; valid = j.valid; inside = inside; table_size = size }))
 
   pub pressing_ends : at plan' (last (named (explaining n lent plan' path table))) ≡ 1
-  pressing_ends = pressed-last plan' plan-is' (named (explaining n lent plan' path table)) (explaining_chain n lent plan' path table pressing_explained)
+  pressing_ends = pressed_last plan' plan_is' (named (explaining n lent plan' path table)) (explaining_chain n lent plan' path table pressing_explained)
     where
-      plan-is' : plan' ≡ pressed (net_of lent) n starts
-      plan-is' = unfold done_pressed in (ap (λ r. r.tables) (judgeable_pressing n lent starts (pressing_judgeable n lent starts zero-answer)))
+      plan_is' : plan' ≡ pressed (net_of lent) n starts
+      plan_is' = unfold done_pressed in (ap (λ r. r.tables) (judgeable_pressing n lent starts (pressing_judgeable n lent starts zero-answer)))
 
-      pressed-last : (t : List ℕ) → t ≡ pressed (net_of lent) n starts → (c : List ℕ) → Chain (net_of lent) (at t) n path c → at t (last c) ≡ 1
-      pressed-last t q c h = unfold pressed in
+      pressed_last : (t : List ℕ) → t ≡ pressed (net_of lent) n starts → (c : List ℕ) → Chain (net_of lent) (at t) n path c → at t (last c) ≡ 1
+      pressed_last t q c h = unfold pressed in
           (ap (λ (s : List ℕ). at s (last c)) q
           ∙ packed_ends (net_of lent) n (network_good n lent j.network) (at (by_start n (at starts) (cleared 128 0) n))
           (arranged_order (λ s i k. at starts k) n (cleared 128 0) (omega (arith, cleared_length 128 0, j.network.few)) n (omega arith))

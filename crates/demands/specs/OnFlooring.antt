@@ -63,8 +63,8 @@ module _ (n : ℕ) (lent : Lent) (list : List ℕ) (zero-answer : (flooring n le
     joined : (i j : ℕ) → i < j → j < k → Conflict net (at other i) (at other j)
     joined i j h l = rw (same i (omega arith), same j l) (both net n (network_good n lent f.network) (at list) k f.clique (turn i) (turn j) (ord.inside i (omega arith)) (ord.inside j l) (ord.fresh i j h l)).0
 
-    turnedFloorable : Floorable n lent other
-    turnedFloorable = record {
+    turned_floorable : Floorable n lent other
+    turned_floorable = record {
       network = f.network;
       some = omega (arith, f.some);
       few = omega (arith, f.few);
@@ -83,7 +83,7 @@ module _ (n : ℕ) (lent : Lent) (list : List ℕ) (zero-answer : (flooring n le
 
     pub flooring_turned : ((flooring n lent other).number ≡ 0) × ((flooring n lent other).floor ≡ (flooring n lent list).floor)
     flooring_turned =
-        let z = (flooring_exact n lent other).1 turnedFloorable in
+        let z = (flooring_exact n lent other).1 turned_floorable in
         (z, flooring_floor n lent other z ∙ floors ∙ sym (flooring_floor n lent list zero-answer))
 
   -- where the list has all paths of the network, and no guard reaches past a path in between, some valid plan

@@ -32,7 +32,7 @@ use Rattle.table_laws.specs.Updates.{kept_none, kept_set}
 use Rattle.plan_laws.specs.Arranged.{arranged_order}
 use Rattle.plan_laws.specs.Improve.{place_below, draw_below, round_kept, round_left}
 use Rattle.plan_laws.specs.Answers.{unless_done, pressing_judgeable, judgeable_pressing, explaining_explainable, explainable_explaining, Packable, packing_packable, packable_packing, siding_done, sidable_siding, improving_packable, packable_improving, planning_plannable, plannable_planning}
-use Rattle.plan_laws.specs.Runs.{runAfter, run_packable}
+use Rattle.plan_laws.specs.Runs.{run_after, run_packable}
 use Rattle.plan_laws.specs.Reason.{chain_few}
 use Rattle.demands.specs.OnPlanning.{sided, greedy_packable}
 use Rattle.demands.specs.Writable.{writing_writable, clear_write}
@@ -92,9 +92,9 @@ module _ (n : ℕ) (lent : Lent) (order starts : List ℕ) (seed k : ℕ) where
   abbrev plan : Left Planned (List ℕ × List ℕ)
   plan = planning n lent order starts seed k
 
-  done-zero : (done_plan (net_of lent) n order starts seed k).answer.number ≡ 0
+  done_zero : (done_plan (net_of lent) n order starts seed k).answer.number ≡ 0
   unfolding done_plan done_planned done_improved
-  done-zero = either (has_sides (net_of lent) n) _ _ refl refl
+  done_zero = either (has_sides (net_of lent) n) _ _ refl refl
     where
       either : (b : Bool) (x y : Left Planned (List ℕ × List ℕ)) → x.answer.number ≡ 0 → y.answer.number ≡ 0 → (cond b x y).answer.number ≡ 0
       either true x y g h = g
@@ -104,7 +104,7 @@ module _ (n : ℕ) (lent : Lent) (order starts : List ℕ) (seed k : ℕ) where
   unfolding planning refused_planned
   planning_refused z =
       let e = unless_is (λ (r : Left Planned (List ℕ × List ℕ)). r.answer.number) (plan_fault n lent order starts k) (refused_planned order starts)
-      (done_plan (net_of lent) n order starts seed k) done-zero z in
+      (done_plan (net_of lent) n order starts seed k) done_zero z in
       (ap (λ (r : Left Planned (List ℕ × List ℕ)). r.answer.highest) e, ap (λ (r : Left Planned (List ℕ × List ℕ)). r.answer.kept) e, ap (λ (r : Left Planned (List ℕ × List ℕ)). r.tables) e)
 
 pub flooring_refused : (n : ℕ) (lent : Lent) (list : List ℕ) → (flooring n lent list).number ≢ 0 → (flooring n lent list).floor ≡ 0
@@ -199,25 +199,25 @@ siding_past n lent order z =
 -- the order that was lent and the starts that were lent, after an order that keeps the first has been
 -- packed into the second
 module _ (n : ℕ) (lent : Lent) (order starts : List ℕ) where
-  planned-kept : (o : List ℕ) (kept : ℕ) → KeptFrom n order o → ((i : ℕ) → i < n → at o i < n)
+  planned_kept : (o : List ℕ) (kept : ℕ) → KeptFrom n order o → ((i : ℕ) → i < n → at o i < n)
       → KeptFrom n order (done_planned (net_of lent) n o starts kept).tables.0 × KeptFrom n starts (done_planned (net_of lent) n o starts kept).tables.1
   unfolding done_planned
-  planned-kept o kept h inside = (h, packed_kept (lowest (net_of lent)) (at o) starts n n inside)
+  planned_kept o kept h inside = (h, packed_kept (lowest (net_of lent)) (at o) starts n n inside)
 
-  improved-kept : (o : List ℕ) (seed k : ℕ) → KeptFrom n order o → Packable n lent o starts
+  improved_kept : (o : List ℕ) (seed k : ℕ) → KeptFrom n order o → Packable n lent o starts
       → KeptFrom n order (done_improved (net_of lent) n o starts seed k).tables.0 × KeptFrom n starts (done_improved (net_of lent) n o starts seed k).tables.1
   unfolding done_improved
-  improved-kept o seed k h p =
-      planned-kept (runAfter n lent o starts seed k).order _ (after k) (run_packable n lent o starts seed p k).whole.inside
+  improved_kept o seed k h p =
+      planned_kept (run_after n lent o starts seed k).order _ (after k) (run_packable n lent o starts seed p k).whole.inside
     where
-      after : (k : ℕ) → KeptFrom n order (runAfter n lent o starts seed k).order
+      after : (k : ℕ) → KeptFrom n order (run_after n lent o starts seed k).order
       after k = unfold improved in (rounds_kept _ n p.network.some order k _ h)
 
   pub improving_past : (seed k : ℕ) → (improving n lent order starts seed k).answer.number ≡ 0
       → KeptFrom n order (improving n lent order starts seed k).tables.0 × KeptFrom n starts (improving n lent order starts seed k).tables.1
   improving_past seed k z =
       let p = improving_packable n lent order starts seed k z in
-      rw (packable_improving n lent order starts seed k p.0 p.1) (improved-kept order seed k (kept_none n order) p.0)
+      rw (packable_improving n lent order starts seed k p.0 p.1) (improved_kept order seed k (kept_none n order) p.0)
 
   pub planning_past : (seed k : ℕ) → (planning n lent order starts seed k).answer.number ≡ 0
       → KeptFrom n order (planning n lent order starts seed k).tables.0 × KeptFrom n starts (planning n lent order starts seed k).tables.1
@@ -229,8 +229,8 @@ module _ (n : ℕ) (lent : Lent) (order starts : List ℕ) where
           (done_improved (net_of lent) n (greedy (lowest (net_of lent)) n starts order n) starts seed k)).tables.0
           × KeptFrom n starts (cond b (done_planned (net_of lent) n (two_sided n (is_high (net_of lent) n) order) starts 0)
           (done_improved (net_of lent) n (greedy (lowest (net_of lent)) n starts order n) starts seed k)).tables.1
-      go true = planned-kept _ 0 (sided_kept (is_high (net_of lent) n) n order) (sided n lent order starts seed k z).whole.inside
-      go false = improved-kept _ seed k (arranged_kept (start_next (lowest (net_of lent)) starts) n order n (omega arith)) (greedy_packable n lent order starts seed k z)
+      go true = planned_kept _ 0 (sided_kept (is_high (net_of lent) n) n order) (sided n lent order starts seed k z).whole.inside
+      go false = improved_kept _ seed k (arranged_kept (start_next (lowest (net_of lent)) starts) n order n (omega arith)) (greedy_packable n lent order starts seed k z)
 
 -- the text past what is written
 pub writing_past : (n : ℕ) (labels : List ℕ) (lent : Lent) (starts text : List ℕ) → (writing n labels lent starts text).answer.number ≡ 0

@@ -104,7 +104,7 @@ pub data GuardSays (n : ℕ) (labels guards l : List ℕ) : Line (List ℕ) → 
   form : ((a b : List ℕ) (g : ℕ) (r : List ℕ) → GuardForm l a b g r → ⊥) → GuardSays n labels guards l (wrong 11)
   unknown : (a b : List ℕ) (g : ℕ) (r : List ℕ) → GuardForm l a b g r → Unknown labels n a ⊎ Unknown labels n b → GuardSays n labels guards l (wrong 13)
   itself : (a b : List ℕ) (g : ℕ) (r : List ℕ) → GuardForm l a b g r → (i : ℕ) → Known labels n a i → Known labels n b i → GuardSays n labels guards l (wrong 13)
-  pairTwice : (a b : List ℕ) (g : ℕ) (r : List ℕ) → GuardForm l a b g r → (i j : ℕ) → Known labels n a i → Known labels n b j → i ≢ j
+  pair_twice : (a b : List ℕ) (g : ℕ) (r : List ℕ) → GuardForm l a b g r → (i j : ℕ) → Known labels n a i → Known labels n b j → i ≢ j
       → at guards (cell i j) ≢ 255 → GuardSays n labels guards l (wrong 14)
   over : (a b : List ℕ) (g : ℕ) (r : List ℕ) → GuardForm l a b g r → (i j : ℕ) → Known labels n a i → Known labels n b j → i ≢ j
       → at guards (cell i j) ≡ 255 → 32 < g → GuardSays n labels guards l (wrong 4)
@@ -138,7 +138,7 @@ module _ (n : ℕ) (labels : List ℕ) (k : ℕ) (guards l : List ℕ) where
           by (inr s) (inr t) (yes d) c h =
               rw (guard_self n labels guards l a b g r e i j refl refl s.inside t.inside d) (itself a b g r f i s (subst (Known labels n b) (sym d) t))
           by (inr s) (inr t) (no d) (no c) h =
-              rw (guard_twice n labels guards l a b g r e i j refl refl s.inside t.inside d c) (pairTwice a b g r f i j s t d c)
+              rw (guard_twice n labels guards l a b g r e i j refl refl s.inside t.inside d c) (pair_twice a b g r f i j s t d c)
           by (inr s) (inr t) (no d) (yes c) (yes h) =
               rw (guard_over n labels guards l a b g r e i j refl refl s.inside t.inside d c h) (over a b g r f i j s t d c h)
           by (inr s) (inr t) (no d) (yes c) (no h) =
@@ -159,7 +159,7 @@ module _ (n : ℕ) (labels : List ℕ) (k : ℕ) (guards l : List ℕ) where
       go (inr s) = guard_second n labels guards l a b g r (form_guard l a b g r f) (find labels n a) (find labels n b) refl refl s.inside (omega (arith, find_unknown labels n b u))
   guard_only x (itself a b g r f i s t) =
       any x (guard_self n labels guards l a b g r (form_guard l a b g r f) i i (sym (find_known labels n a i s)) (sym (find_known labels n b i t)) s.inside t.inside refl)
-  guard_only x (pairTwice a b g r f i j s t d c) =
+  guard_only x (pair_twice a b g r f i j s t d c) =
       any x (guard_twice n labels guards l a b g r (form_guard l a b g r f) i j (sym (find_known labels n a i s)) (sym (find_known labels n b j t)) s.inside t.inside d c)
   guard_only x (over a b g r f i j s t d c h) =
       any x (guard_over n labels guards l a b g r (form_guard l a b g r f) i j (sym (find_known labels n a i s)) (sym (find_known labels n b j t)) s.inside t.inside d c h)
@@ -223,17 +223,17 @@ module _ {T : Type 0} (step : ℕ → T → List ℕ → Line T) (top : ℕ) (t 
       go (wrong x) e ih = stops k t' l' x (omega arith) f e
       go (right s r) e ih = let q : k + suc m ≡ suc k + m = omega arith in rw q (ih s r (more k t' l' s r f e))
 
-  lines-past : (k : ℕ) (t' : T) (l' : List ℕ) → FirstRight step t l k t' l' → (m : ℕ) → lines step top (k + m) 0 t l ≡ lines step top m k t' l'
-  lines-past k t' l' start m = let q : 0 + m ≡ m = omega arith in rw q
-  lines-past k'' t'' l'' (more k t' l' s r f e) m =
+  lines_past : (k : ℕ) (t' : T) (l' : List ℕ) → FirstRight step t l k t' l' → (m : ℕ) → lines step top (k + m) 0 t l ≡ lines step top m k t' l'
+  lines_past k t' l' start m = let q : 0 + m ≡ m = omega arith in rw q
+  lines_past k'' t'' l'' (more k t' l' s r f e) m =
       let q : suc k + m ≡ k + suc m = omega arith in
-      rw q (lines-past k t' l' f (suc m) ∙ (unfold lines follow in (rw e)))
+      rw q (lines_past k t' l' f (suc m) ∙ (unfold lines follow in (rw e)))
 
   pub lines_say : (m : ℕ) → LinesSay step top m t l (lines step top m 0 t l)
   lines_say m = let q : 0 + m ≡ m = omega arith in subst (λ x. LinesSay step top x t l (lines step top m 0 t l)) q (lines_from m 0 t l start)
 
   pub lines_only : (m : ℕ) (x : Section T) → LinesSay step top m t l x → lines step top m 0 t l ≡ x
-  lines_only m x (ends t' l' f) = let q : m ≡ m + 0 = omega arith in ap (λ (n : ℕ). lines step top n 0 t l) q ∙ lines-past m t' l' f 0 ∙ (unfold lines in refl)
+  lines_only m x (ends t' l' f) = let q : m ≡ m + 0 = omega arith in ap (λ (n : ℕ). lines step top n 0 t l) q ∙ lines_past m t' l' f 0 ∙ (unfold lines in refl)
   lines_only m x (stops k t' l' y h f e) = at_rest (rest_of k m h)
     where
       rest_of : (k m : ℕ) → k < m → (j : ℕ) × (m ≡ k + suc j)
@@ -243,4 +243,4 @@ module _ {T : Type 0} (step : ℕ → T → List ℕ → Line T) (top : ℕ) (t 
       rest_of (suc k) (suc m) h = let r = rest_of k m (omega arith) in (r.0, omega (arith, r.1))
 
       at_rest : (j : ℕ) × (m ≡ k + suc j) → lines step top m 0 t l ≡ halt y (top + k)
-      at_rest r = ap (λ (n : ℕ). lines step top n 0 t l) r.1 ∙ lines-past k t' l' f (suc r.0) ∙ (unfold lines follow in (rw e))
+      at_rest r = ap (λ (n : ℕ). lines step top n 0 t l) r.1 ∙ lines_past k t' l' f (suc r.0) ∙ (unfold lines follow in (rw e))

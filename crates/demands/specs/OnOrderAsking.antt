@@ -18,7 +18,7 @@ use Rattle.table_laws.specs.Tables.{cleared_length}
 use Rattle.plan_laws.specs.Answers.{judgeable_judging}
 use Rattle.demands.specs.Writable.{Writable}
 use Rattle.demands.specs.ReadCells.{reading_writable}
-use Rattle.demands.specs.OnProgram.{input_read, own_tables, plannedStarts, printed_plan, printed_valid, printed_read}
+use Rattle.demands.specs.OnProgram.{input_read, own_tables, planned_starts, printed_plan, printed_valid, printed_read}
 use Rattle.demands.specs.OnAsking.{judged_none, says_none, says_clash}
 use Rattle.demands.specs.Grid.{Anchor, anchor_small, anchor_clear}
 use Rattle.demands.specs.Orderable.{Orderable, written_order}
@@ -84,17 +84,17 @@ module _ (a : ℤ) (h : Anchor a) (input : List ℕ) (read : (input_read input).
   w : Writable n labels lent starts
   w = reading_writable input (cleared 1024 0) (lend (cleared 128 0) (cleared 16384 0)) (cleared 128 0) read
 
-  order-text : asked 2 order_word (signed_numeral a) input ≡ ordered_text a n labels lent starts
+  order_text_lem : asked 2 order_word (signed_numeral a) input ≡ ordered_text a n labels lent starts
   unfolding on_sheet
-  order-text = order_anchor a h input ∙ rw (eq-eqb (input_read input).answer.number 0 read)
+  order_text_lem = order_anchor a h input ∙ rw (eq-eqb (input_read input).answer.number 0 read)
 
   -- no plan stands in it; or two of its paths clash
   pub order_none : has_plan n starts ≡ false → asked 2 order_word (signed_numeral a) input ≡ no_plan_text
-  order_none e = order-text ∙ (unfold ordered_text in (says_none labels [] _ _ _ _ (judged_none n labels lent starts w e)))
+  order_none e = order_text_lem ∙ (unfold ordered_text in (says_none labels [] _ _ _ _ (judged_none n labels lent starts w e)))
 
   pub order_clash : (judging n lent starts).number ≡ 8
       → asked 2 order_word (signed_numeral a) input ≡ clash_text labels (judging n lent starts).place (judging n lent starts).short
-  order_clash z = order-text ∙ (unfold ordered_text in (says_clash labels [] _ _ _ _ z))
+  order_clash z = order_text_lem ∙ (unfold ordered_text in (says_clash labels [] _ _ _ _ z))
 
   -- a valid plan: its order sheet, whole, and so read back to its starts
   module _ (e : has_plan n starts ≡ true) (v : Valid (net_of lent) n (at starts)) where
@@ -114,7 +114,7 @@ module _ (a : ℤ) (h : Anchor a) (input : List ℕ) (read : (input_read input).
 
     pub order_valid : asked 2 order_word (signed_numeral a) input ≡ order_text a n labels lent.widths starts
     unfolding ordered_text
-    order_valid = order-text ∙ rw (eq-eqb (judging n lent starts).number 0 judged) (written_order a n labels lent starts (cleared 2314 0) order_writes)
+    order_valid = order_text_lem ∙ rw (eq-eqb (judging n lent starts).number 0 judged) (written_order a n labels lent starts (cleared 2314 0) order_writes)
 
     pub order_read_back : (under : List ℕ) → length under ≡ 128
         → order_reading a (asked 2 order_word (signed_numeral a) input) n labels lent under ≡ left (record { number = 0; place = 0 }) (laid n starts under)
@@ -128,12 +128,12 @@ Read = Left SheetRead (List ℕ × Lent × List ℕ)
 
 module _ (a : ℤ) (h : Anchor a) (input : List ℕ) (read : (input_read input).answer.number ≡ 0) where
   pub order_planned : asked 2 order_word (signed_numeral a) (printed input)
-      ≡ order_text a (input_read input).answer.n (input_read input).tables.0 (input_read input).tables.1.widths (plannedStarts input read)
+      ≡ order_text a (input_read input).answer.n (input_read input).tables.0 (input_read input).tables.1.widths (planned_starts input read)
   order_planned =
       order_valid a h (printed input) (ap (λ (r : Read). r.answer.number) again)
       (ap (λ (r : Read). has_plan r.answer.n r.tables.2) again ∙ printed_plan input read)
       (subst (λ (r : Read). Valid (net_of r.tables.1) r.answer.n (at r.tables.2)) (sym again) (printed_valid input read))
       ∙ ap (λ (r : Read). order_text a r.answer.n r.tables.0 r.tables.1.widths r.tables.2) again
     where
-      again : input_read (printed input) ≡ left (record { number = 0; place = 0; n = (input_read input).answer.n }) ((input_read input).tables.0, (input_read input).tables.1, plannedStarts input read)
+      again : input_read (printed input) ≡ left (record { number = 0; place = 0; n = (input_read input).answer.n }) ((input_read input).tables.0, (input_read input).tables.1, planned_starts input read)
       again = printed_read input read (cleared 1024 0) (lend (cleared 128 0) (cleared 16384 0)) (cleared 128 0) own_tables

@@ -85,11 +85,11 @@ order_named anchor labels widths k starts l y x (fine w b r f h p q) e = let z :
 -- A whole text, read over the starts of n paths: the first line at fault, as the number and the line. Line 1 is
 -- the count's, 2 + k path k's, and 2 + n that of text which is left over
 pub data OrderWrong (anchor : ℤ) (n : ℕ) (labels widths starts l : List ℕ) : ℕ → ℕ → Type 0 where
-  countForm : NoCount order_word l → OrderWrong anchor n labels widths starts l 11 1
-  countOther : (m : ℕ) (r : List ℕ) → CountForm order_word l m r → m ≢ n → OrderWrong anchor n labels widths starts l 1 1
-  lineWrong : (l₁ : List ℕ) → CountForm order_word l n l₁ → (k : ℕ) (t l₂ : List ℕ) (x : ℕ) → k < n → FirstRight (order_step anchor labels widths) starts l₁ k t l₂
+  count_formless : NoCount order_word l → OrderWrong anchor n labels widths starts l 11 1
+  count_other : (m : ℕ) (r : List ℕ) → CountForm order_word l m r → m ≢ n → OrderWrong anchor n labels widths starts l 1 1
+  line_wrong : (l₁ : List ℕ) → CountForm order_word l n l₁ → (k : ℕ) (t l₂ : List ℕ) (x : ℕ) → k < n → FirstRight (order_step anchor labels widths) starts l₁ k t l₂
       → order_step anchor labels widths k t l₂ ≡ wrong x → OrderWrong anchor n labels widths starts l x (2 + k)
-  leftOver : (l₁ : List ℕ) → CountForm order_word l n l₁ → (t : List ℕ) (y : ℕ) (r : List ℕ) → FirstRight (order_step anchor labels widths) starts l₁ n t (y ∷ r)
+  left_over : (l₁ : List ℕ) → CountForm order_word l n l₁ → (t : List ℕ) (y : ℕ) (r : List ℕ) → FirstRight (order_step anchor labels widths) starts l₁ n t (y ∷ r)
       → OrderWrong anchor n labels widths starts l 11 (2 + n)
 
 -- or no line is at fault, and what the starts then are
@@ -99,7 +99,7 @@ pub record OrderRight (anchor : ℤ) (n : ℕ) (labels widths starts l after : L
   pub each : FirstRight (order_step anchor labels widths) starts l₁ n after []
 
 pub data OrderReads (anchor : ℤ) (n : ℕ) (labels widths starts l : List ℕ) : Type 0 where
-  wrongAt : (x y : ℕ) → OrderWrong anchor n labels widths starts l x y → OrderReads anchor n labels widths starts l
+  wrong_at : (x y : ℕ) → OrderWrong anchor n labels widths starts l x y → OrderReads anchor n labels widths starts l
   rightly : (t : List ℕ) → OrderRight anchor n labels widths starts l t → OrderReads anchor n labels widths starts l
 
 module _ (anchor : ℤ) (n : ℕ) (labels widths starts l : List ℕ) where
@@ -109,21 +109,21 @@ module _ (anchor : ℤ) (n : ℕ) (labels widths starts l : List ℕ) where
   pub order_reads : OrderReads anchor n labels widths starts l
   order_reads = count (count_says order_word l)
     where
-      each-one : (r : List ℕ) → CountForm order_word l n r → (x : Section (List ℕ)) → LinesSay each_line 2 n starts r x → OrderReads anchor n labels widths starts l
-      each-one r f x (stops k t l₂ z h g e) = wrongAt z (2 + k) (lineWrong r f k t l₂ z h g e)
-      each-one r f x (ends t [] g) = rightly t (record { l₁ = r; count = f; each = g })
-      each-one r f x (ends t (y ∷ u) g) = wrongAt 11 (2 + n) (leftOver r f t y u g)
+      each_one : (r : List ℕ) → CountForm order_word l n r → (x : Section (List ℕ)) → LinesSay each_line 2 n starts r x → OrderReads anchor n labels widths starts l
+      each_one r f x (stops k t l₂ z h g e) = wrong_at z (2 + k) (line_wrong r f k t l₂ z h g e)
+      each_one r f x (ends t [] g) = rightly t (record { l₁ = r; count = f; each = g })
+      each_one r f x (ends t (y ∷ u) g) = wrong_at 11 (2 + n) (left_over r f t y u g)
 
       count : ((c : ℕ) × (r : List ℕ) × (count_line order_word l ≡ some c r)) ⊎ (count_line order_word l ≡ none) → OrderReads anchor n labels widths starts l
-      count (inr e) = wrongAt 11 1 (countForm (no_count order_word l e))
+      count (inr e) = wrong_at 11 1 (count_formless (no_count order_word l e))
       count (inl c) = by (ℕ_discrete c.0 n)
         where
           f : CountForm order_word l c.0 c.1
           f = count_form order_word l c.0 c.1 c.2
 
           by : Dec (c.0 ≡ n) → OrderReads anchor n labels widths starts l
-          by (no d) = wrongAt 1 1 (countOther c.0 c.1 f d)
-          by (yes q) = each-one c.1 (subst (λ k. CountForm order_word l k c.1) q f) _ (lines_say each_line 2 starts c.1 n)
+          by (no d) = wrong_at 1 1 (count_other c.0 c.1 f d)
+          by (yes q) = each_one c.1 (subst (λ k. CountForm order_word l k c.1) q f) _ (lines_say each_line 2 starts c.1 n)
 
   -- each of these is what the text comes to
   pub after_count : (l₁ : List ℕ) → CountForm order_word l n l₁
@@ -133,10 +133,10 @@ module _ (anchor : ℤ) (n : ℕ) (labels widths starts l : List ℕ) where
 
   pub order_wrong : (x y : ℕ) → OrderWrong anchor n labels widths starts l x y → order_from anchor n labels widths starts l ≡ halt x y
   unfolding after ended
-  order_wrong x y (countForm h) = unfold order_from last_part counted in (rw (none_count order_word l h))
-  order_wrong x y (countOther m r f d) = unfold order_from last_part counted in (rw (form_count order_word l m r f, ne_eqb m n d))
-  order_wrong x y (lineWrong l₁ f k t l₂ z h g e) = after_count l₁ f ∙ rw (lines_only each_line 2 starts l₁ n (halt z (2 + k)) (stops k t l₂ z h g e))
-  order_wrong x y (leftOver l₁ f t z r g) = after_count l₁ f ∙ rw (lines_only each_line 2 starts l₁ n (done t (z ∷ r)) (ends t (z ∷ r) g))
+  order_wrong x y (count_formless h) = unfold order_from last_part counted in (rw (none_count order_word l h))
+  order_wrong x y (count_other m r f d) = unfold order_from last_part counted in (rw (form_count order_word l m r f, ne_eqb m n d))
+  order_wrong x y (line_wrong l₁ f k t l₂ z h g e) = after_count l₁ f ∙ rw (lines_only each_line 2 starts l₁ n (halt z (2 + k)) (stops k t l₂ z h g e))
+  order_wrong x y (left_over l₁ f t z r g) = after_count l₁ f ∙ rw (lines_only each_line 2 starts l₁ n (done t (z ∷ r)) (ends t (z ∷ r) g))
 
   pub order_right : (t : List ℕ) → OrderRight anchor n labels widths starts l t → order_from anchor n labels widths starts l ≡ done t []
   unfolding after ended
@@ -144,7 +144,7 @@ module _ (anchor : ℤ) (n : ℕ) (labels widths starts l : List ℕ) where
 
   -- no line's number is 0
   pub wrong_named : (x y : ℕ) → OrderWrong anchor n labels widths starts l x y → x ≢ 0
-  wrong_named x y (countForm h) = λ z. omega arith
-  wrong_named x y (countOther m r f d) = λ z. omega arith
-  wrong_named x y (lineWrong l₁ f k t l₂ u h g e) = order_named anchor labels widths k t l₂ _ u (order_says anchor labels widths k t l₂) e
-  wrong_named x y (leftOver l₁ f t z r g) = λ z. omega arith
+  wrong_named x y (count_formless h) = λ z. omega arith
+  wrong_named x y (count_other m r f d) = λ z. omega arith
+  wrong_named x y (line_wrong l₁ f k t l₂ u h g e) = order_named anchor labels widths k t l₂ _ u (order_says anchor labels widths k t l₂) e
+  wrong_named x y (left_over l₁ f t z r g) = λ z. omega arith

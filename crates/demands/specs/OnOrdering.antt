@@ -19,115 +19,115 @@ use Rattle.demands.specs.SheetTrip.{sheet_of}
 use Rattle.demands.specs.Orderable.{OrderTables, Orderable, tables_clear, clear_tables, order_exact, order_done, written_order}
 use Rattle.demands.specs.LongestOrder.{order_most}
 use Rattle.demands.specs.OrderTrip.{order_same}
-use Rattle.demands.specs.OnOrderLines.{OrderWrong, OrderRight, OrderReads, wrongAt, rightly, order_reads, order_wrong, order_right, wrong_named}
+use Rattle.demands.specs.OnOrderLines.{OrderWrong, OrderRight, OrderReads, wrong_at, rightly, order_reads, order_wrong, order_right, wrong_named}
 use Rattle.demands.specs.OrderBack.{Taken, right_taken, right_text}
 
 module _ (anchor : ℤ) (text : List ℕ) (n : ℕ) (labels : List ℕ) (lent : Lent) (starts : List ℕ) where
-  abbrev leftBehind : Left OrderRead (List ℕ)
-  leftBehind = order_reading anchor text n labels lent starts
+  abbrev left_behind : Left OrderRead (List ℕ)
+  left_behind = order_reading anchor text n labels lent starts
 
   -- the tests of the tables come first
   pub ordering_tables : (OrderTables anchor n labels lent starts → ⊥)
-      → leftBehind ≡ left (record { number = (order_read_fault anchor n labels lent starts).number; place = (order_read_fault anchor n labels lent starts).place }) starts
+      → left_behind ≡ left (record { number = (order_read_fault anchor n labels lent starts).number; place = (order_read_fault anchor n labels lent starts).place }) starts
   unfolding order_reading
   ordering_tables h = unless_refused (order_read_fault anchor n labels lent starts) _ _ (λ z. h (tables_clear anchor n labels lent starts z))
 
   module _ (s : OrderTables anchor n labels lent starts) where
-    reading-on : leftBehind ≡ order_outcome starts (order_from anchor n labels lent.widths starts text)
+    reading_on : left_behind ≡ order_outcome starts (order_from anchor n labels lent.widths starts text)
     unfolding order_reading
-    reading-on = unless_done (order_read_fault anchor n labels lent starts) _ _ (clear_tables anchor n labels lent starts s)
+    reading_on = unless_done (order_read_fault anchor n labels lent starts) _ _ (clear_tables anchor n labels lent starts s)
 
     -- then the first line at fault: the starts are as they were
-    pub ordering_halt : (x y : ℕ) → OrderWrong anchor n labels lent.widths starts text x y → leftBehind ≡ left (record { number = x; place = y }) starts
+    pub ordering_halt : (x y : ℕ) → OrderWrong anchor n labels lent.widths starts text x y → left_behind ≡ left (record { number = x; place = y }) starts
     unfolding order_outcome
-    ordering_halt x y h = reading-on ∙ rw (order_wrong anchor n labels lent.widths starts text x y h)
+    ordering_halt x y h = reading_on ∙ rw (order_wrong anchor n labels lent.widths starts text x y h)
 
     -- or the starts that the lines give
-    pub ordering_done : (t : List ℕ) → OrderRight anchor n labels lent.widths starts text t → leftBehind ≡ left (record { number = 0; place = 0 }) t
+    pub ordering_done : (t : List ℕ) → OrderRight anchor n labels lent.widths starts text t → left_behind ≡ left (record { number = 0; place = 0 }) t
     unfolding order_outcome
-    ordering_done t h = reading-on ∙ rw (order_right anchor n labels lent.widths starts text t h)
+    ordering_done t h = reading_on ∙ rw (order_right anchor n labels lent.widths starts text t h)
 
   -- one of the three
   pub data OrderingSays : Type 0 where
-    tablesWrong : (OrderTables anchor n labels lent starts → ⊥) → (order_read_fault anchor n labels lent starts).number ≢ 0
-        → leftBehind ≡ left (record { number = (order_read_fault anchor n labels lent starts).number; place = (order_read_fault anchor n labels lent starts).place }) starts
+    tables_wrong : (OrderTables anchor n labels lent starts → ⊥) → (order_read_fault anchor n labels lent starts).number ≢ 0
+        → left_behind ≡ left (record { number = (order_read_fault anchor n labels lent starts).number; place = (order_read_fault anchor n labels lent starts).place }) starts
         → OrderingSays
-    lineAtFault : OrderTables anchor n labels lent starts → (x y : ℕ) → OrderWrong anchor n labels lent.widths starts text x y → x ≢ 0
-        → leftBehind ≡ left (record { number = x; place = y }) starts → OrderingSays
-    allRight : OrderTables anchor n labels lent starts → (t : List ℕ) → OrderRight anchor n labels lent.widths starts text t
-        → leftBehind ≡ left (record { number = 0; place = 0 }) t → OrderingSays
+    line_at_fault : OrderTables anchor n labels lent starts → (x y : ℕ) → OrderWrong anchor n labels lent.widths starts text x y → x ≢ 0
+        → left_behind ≡ left (record { number = x; place = y }) starts → OrderingSays
+    all_right : OrderTables anchor n labels lent starts → (t : List ℕ) → OrderRight anchor n labels lent.widths starts text t
+        → left_behind ≡ left (record { number = 0; place = 0 }) t → OrderingSays
 
   pub ordering_says : OrderingSays
   ordering_says = go (ℕ_discrete (order_read_fault anchor n labels lent starts).number 0)
     where
       by : OrderTables anchor n labels lent starts → OrderReads anchor n labels lent.widths starts text → OrderingSays
-      by s (wrongAt x y h) = lineAtFault s x y h (wrong_named anchor n labels lent.widths starts text x y h) (ordering_halt s x y h)
-      by s (rightly t h) = allRight s t h (ordering_done s t h)
+      by s (wrong_at x y h) = line_at_fault s x y h (wrong_named anchor n labels lent.widths starts text x y h) (ordering_halt s x y h)
+      by s (rightly t h) = all_right s t h (ordering_done s t h)
 
       go : Dec ((order_read_fault anchor n labels lent starts).number ≡ 0) → OrderingSays
       go (yes z) = by (tables_clear anchor n labels lent starts z) (order_reads anchor n labels lent.widths starts text)
-      go (no z) = let h : OrderTables anchor n labels lent starts → ⊥ = λ s. z (clear_tables anchor n labels lent starts s) in tablesWrong h z (ordering_tables h)
+      go (no z) = let h : OrderTables anchor n labels lent starts → ⊥ = λ s. z (clear_tables anchor n labels lent starts s) in tables_wrong h z (ordering_tables h)
 
   -- so 0 is answered exactly where the tables are within their limits and every line is right
-  pub ordering_right : leftBehind.answer.number ≡ 0 → OrderTables anchor n labels lent starts × OrderRight anchor n labels lent.widths starts text leftBehind.tables
+  pub ordering_right : left_behind.answer.number ≡ 0 → OrderTables anchor n labels lent starts × OrderRight anchor n labels lent.widths starts text left_behind.tables
   ordering_right z = go ordering_says
     where
       number : {r s : Left OrderRead (List ℕ)} → r ≡ s → r.answer.number ≡ s.answer.number
       number e = ap (λ (r : Left OrderRead (List ℕ)). r.answer.number) e
 
-      go : OrderingSays → OrderTables anchor n labels lent starts × OrderRight anchor n labels lent.widths starts text leftBehind.tables
-      go (tablesWrong h y e) = absurd (y (sym (number e) ∙ z))
-      go (lineAtFault s x y h c e) = absurd (c (sym (number e) ∙ z))
-      go (allRight s t h e) = (s, subst (OrderRight anchor n labels lent.widths starts text) (sym (ap (λ (r : Left OrderRead (List ℕ)). r.tables) e)) h)
+      go : OrderingSays → OrderTables anchor n labels lent starts × OrderRight anchor n labels lent.widths starts text left_behind.tables
+      go (tables_wrong h y e) = absurd (y (sym (number e) ∙ z))
+      go (line_at_fault s x y h c e) = absurd (c (sym (number e) ∙ z))
+      go (all_right s t h e) = (s, subst (OrderRight anchor n labels lent.widths starts text) (sym (ap (λ (r : Left OrderRead (List ℕ)). r.tables) e)) h)
 
   -- a refused reading leaves the starts unchanged
-  pub ordering_refused : leftBehind.answer.number ≢ 0 → leftBehind.tables ≡ starts
+  pub ordering_refused : left_behind.answer.number ≢ 0 → left_behind.tables ≡ starts
   ordering_refused z = go ordering_says
     where
-      go : OrderingSays → leftBehind.tables ≡ starts
-      go (tablesWrong h y e) = ap (λ (r : Left OrderRead (List ℕ)). r.tables) e
-      go (lineAtFault s x y h c e) = ap (λ (r : Left OrderRead (List ℕ)). r.tables) e
-      go (allRight s t h e) = absurd (z (ap (λ (r : Left OrderRead (List ℕ)). r.answer.number) e))
+      go : OrderingSays → left_behind.tables ≡ starts
+      go (tables_wrong h y e) = ap (λ (r : Left OrderRead (List ℕ)). r.tables) e
+      go (line_at_fault s x y h c e) = ap (λ (r : Left OrderRead (List ℕ)). r.tables) e
+      go (all_right s t h e) = absurd (z (ap (λ (r : Left OrderRead (List ℕ)). r.answer.number) e))
 
   -- one that is accepted: the starts are within their limits, and those past n are as they were; the text is the
   -- order sheet of these starts
-  module _ (z : leftBehind.answer.number ≡ 0) where
+  module _ (z : left_behind.answer.number ≡ 0) where
     tables : OrderTables anchor n labels lent starts
     tables = (ordering_right z).0
 
-    taken : Taken anchor labels lent.widths starts (ordering_right z).1.l₁ n leftBehind.tables []
+    taken : Taken anchor labels lent.widths starts (ordering_right z).1.l₁ n left_behind.tables []
     taken =
-        right_taken anchor n labels lent.widths starts text leftBehind.tables tables.labels_size tables.starts_size tables.network.few (ordering_right z).1
+        right_taken anchor n labels lent.widths starts text left_behind.tables tables.labels_size tables.starts_size tables.network.few (ordering_right z).1
 
-    pub ordering_past : KeptFrom n starts leftBehind.tables
+    pub ordering_past : KeptFrom n starts left_behind.tables
     ordering_past = taken.kept
 
-    pub ordering_starts : Starts n leftBehind.tables
+    pub ordering_starts : Starts n left_behind.tables
     ordering_starts = record { size = taken.kept.size ∙ tables.starts_size; start = taken.planned }
 
-    pub ordering_text : text ≡ order_text anchor n labels lent.widths leftBehind.tables
+    pub ordering_text : text ≡ order_text anchor n labels lent.widths left_behind.tables
     ordering_text =
-        right_text anchor n labels lent.widths starts text leftBehind.tables tables.labels_size tables.starts_size tables.network.few (ordering_right z).1
+        right_text anchor n labels lent.widths starts text left_behind.tables tables.labels_size tables.starts_size tables.network.few (ordering_right z).1
 
     -- so it has no more than 2,314 bytes
-    read-tables : OrderTables anchor n labels lent leftBehind.tables
-    read-tables = record { network = tables.network; labels_size = tables.labels_size; starts_size = ordering_starts.size; anchored = tables.anchored }
+    read_tables : OrderTables anchor n labels lent left_behind.tables
+    read_tables = record { network = tables.network; labels_size = tables.labels_size; starts_size = ordering_starts.size; anchored = tables.anchored }
 
     pub ordering_most : length text ≤ 2314
-    ordering_most = omega (arith, ap length ordering_text, order_most anchor n labels lent leftBehind.tables read-tables taken.planned)
+    ordering_most = omega (arith, ap length ordering_text, order_most anchor n labels lent left_behind.tables read_tables taken.planned)
 
     -- where no two labels are alike it is written back, given room, to the same text
     pub ordering_written : ((k : ℕ) → k < n → label_twice labels k ≡ false) → (room : List ℕ) → length text ≤ length room
-        → ((order_writing anchor n labels lent leftBehind.tables room).answer.number ≡ 0) × (sheet_of (order_writing anchor n labels lent leftBehind.tables room) ≡ text)
+        → ((order_writing anchor n labels lent left_behind.tables room).answer.number ≡ 0) × (sheet_of (order_writing anchor n labels lent left_behind.tables room) ≡ text)
     ordering_written once room fits =
-        let w : Orderable anchor n labels lent leftBehind.tables = record {
-          tables = read-tables;
+        let w : Orderable anchor n labels lent left_behind.tables = record {
+          tables = read_tables;
           formed = taken.formed;
           once = once;
           planned = taken.planned;
         } in
-        let y = (order_exact anchor n labels lent leftBehind.tables room).1 (w, omega (arith, ap length ordering_text)) in
-        (y, written_order anchor n labels lent leftBehind.tables room y ∙ sym ordering_text)
+        let y = (order_exact anchor n labels lent left_behind.tables room).1 (w, omega (arith, ap length ordering_text)) in
+        (y, written_order anchor n labels lent left_behind.tables room y ∙ sym ordering_text)
 
 -- two texts that give the same starts are one text
 pub one_order_sheet : (anchor : ℤ) (n : ℕ) (labels : List ℕ) (lent : Lent) (text text' starts starts' : List ℕ)

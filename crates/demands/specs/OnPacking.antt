@@ -70,24 +70,24 @@ module _ (n : ℕ) (lent : Lent) (order starts : List ℕ) (zero-answer : (packi
   packable : Packable n lent order starts
   packable = packing_packable n lent order starts zero-answer
 
-  packing-is : packing n lent order starts ≡ done_packed (net_of lent) n (packed_starts n lent order starts)
-  packing-is = packable_packing n lent order starts packable
+  packing_is : packing n lent order starts ≡ done_packed (net_of lent) n (packed_starts n lent order starts)
+  packing_is = packable_packing n lent order starts packable
 
   pub packing_valid : Valid (net_of lent) n (at (packing n lent order starts).tables)
   unfolding done_packed
-  packing_valid = rw packing-is (plan_valid n lent order starts packable)
+  packing_valid = rw packing_is (plan_valid n lent order starts packable)
 
   pub packing_starts : Starts n (packing n lent order starts).tables
   unfolding done_packed
-  packing_starts = rw packing-is (plan_starts n lent order starts packable)
+  packing_starts = rw packing_is (plan_starts n lent order starts packable)
 
   pub packing_bound : (packing n lent order starts).answer.highest ≤ 12256
   unfolding done_packed
-  packing_bound = rw packing-is (plan_bound n lent order starts packable)
+  packing_bound = rw packing_is (plan_bound n lent order starts packable)
 
   pub packing_highest : (packing n lent order starts).answer.highest ≡ highest (net_of lent) (at (packing n lent order starts).tables) n
   unfolding done_packed
-  packing_highest = rw packing-is
+  packing_highest = rw packing_is
 
   -- the rule itself: each start is 1, or the first slot past a conflicting path earlier in the order and
   -- its guard, and it is below none of these
@@ -95,7 +95,7 @@ module _ (n : ℕ) (lent : Lent) (order starts : List ℕ) (zero-answer : (packi
       → Clear (net_of lent) (at (packing n lent order starts).tables) (at order i) (at order j)
   unfolding done_packed
   packing_clear i j h l c =
-      rw packing-is
+      rw packing_is
       (omega (
         arith,
         respects_keeps (net_of lent) n (at order) packable.whole (at (packed_starts n lent order starts))
@@ -107,6 +107,6 @@ module _ (n : ℕ) (lent : Lent) (order starts : List ℕ) (zero-answer : (packi
       ⊎ ((j : ℕ) × (j < i) × Conflict (net_of lent) (at order j) (at order i)
       × (at (packing n lent order starts).tables (at order i) ≡ past (net_of lent) (at order j) (at order i) (at (packing n lent order starts).tables (at order j))))
   unfolding done_packed
-  packing_lowest i l = rw packing-is
+  packing_lowest i l = rw packing_is
       (rw (packs (net_of lent) n (at order) packable.whole starts (room n lent order starts packable) (lowest (net_of lent)) (lowest_local (net_of lent)) i l)
       (lowest_reached (net_of lent) (at (packed_starts n lent order starts)) (at order) i (at order i)))

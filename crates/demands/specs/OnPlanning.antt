@@ -26,8 +26,8 @@ module _ (n : ℕ) (lent : Lent) (order starts : List ℕ) (seed rounds : ℕ) (
   abbrev net : Net
   net = net_of lent
 
-  abbrev leftBehind : Left Planned (List ℕ × List ℕ)
-  leftBehind = planning n lent order starts seed rounds
+  abbrev left_behind : Left Planned (List ℕ × List ℕ)
+  left_behind = planning n lent order starts seed rounds
 
   plannable : Plannable n lent order starts seed rounds
   plannable = planning_plannable n lent order starts seed rounds zero-answer
@@ -48,25 +48,25 @@ module _ (n : ℕ) (lent : Lent) (order starts : List ℕ) (seed rounds : ℕ) (
     has : has_sides net n ≡ true
     has = found_all net n plannable.network.few (network_good n lent plannable.network) high split
 
-    sided-is : leftBehind ≡ done_planned net n (two_sided n (is_high net n) order) starts 0
+    sided_is : left_behind ≡ done_planned net n (two_sided n (is_high net n) order) starts 0
     unfolding done_plan
-    sided-is = plannable_planning n lent order starts seed rounds plannable ∙ rw has
+    sided_is = plannable_planning n lent order starts seed rounds plannable ∙ rw has
 
     -- two-sided networks get the best plan: the figure of RULES 7, and no valid plan is lower
-    pub planning_figure : leftBehind.answer.highest ≡ two_sided_highest net n
+    pub planning_figure : left_behind.answer.highest ≡ two_sided_highest net n
     unfolding done_planned
     planning_figure =
-        rw sided-is
+        rw sided_is
         (two_sided_lem net n (network_good n lent plannable.network) (λ k l. refl) (is_high net n)
         (found_sides net n plannable.network.few (network_good n lent plannable.network) has).split order starts room
         (omega (arith, plannable.starts_size, plannable.network.few)))
 
-    pub planning_best : (plan : ℕ → ℕ) → Valid net n plan → leftBehind.answer.highest ≤ highest net plan n
+    pub planning_best : (plan : ℕ → ℕ) → Valid net n plan → left_behind.answer.highest ≤ highest net plan n
     planning_best plan v = rw planning_figure (figure_holds net n (network_good n lent plannable.network) plan v)
 
-    pub planning_none_kept : leftBehind.answer.kept ≡ 0
+    pub planning_none_kept : left_behind.answer.kept ≡ 0
     unfolding done_planned
-    planning_none_kept = rw sided-is
+    planning_none_kept = rw sided_is
 
   -- where there are none: what improving the greedy order leaves
   pub greedy_packable : Packable n lent (greedy (lowest net) n starts order n) starts
@@ -77,33 +77,33 @@ module _ (n : ℕ) (lent : Lent) (order starts : List ℕ) (seed rounds : ℕ) (
     whole = arranged_order (start_next (lowest net) starts) n order room n (omega arith);
   }
 
-  improved-is : has_sides net n ≡ false → leftBehind ≡ improving n lent (greedy (lowest net) n starts order n) starts seed rounds
+  improved_is : has_sides net n ≡ false → left_behind ≡ improving n lent (greedy (lowest net) n starts order n) starts seed rounds
   unfolding done_plan
-  improved-is e =
+  improved_is e =
       plannable_planning n lent order starts seed rounds plannable
       ∙ rw e (sym (packable_improving n lent (greedy (lowest net) n starts order n) starts seed rounds greedy_packable plannable.few))
 
-  pub planning_greedy : ((high : ℕ → Bool) → Split net n high → ⊥) → leftBehind ≡ improving n lent (greedy (lowest net) n starts order n) starts seed rounds
-  planning_greedy h = improved-is (lacks (has_sides net n) refl)
+  pub planning_greedy : ((high : ℕ → Bool) → Split net n high → ⊥) → left_behind ≡ improving n lent (greedy (lowest net) n starts order n) starts seed rounds
+  planning_greedy h = improved_is (lacks (has_sides net n) refl)
     where
       lacks : (b : Bool) → has_sides net n ≡ b → has_sides net n ≡ false
       lacks false e = e
       lacks true e = absurd (h (is_high net n) (found_sides net n plannable.network.few (network_good n lent plannable.network) e).split)
 
   -- either way what it leaves is the packing of the order that it leaves, and its highest slot is that plan's
-  pub planning_packs : packing n lent leftBehind.tables.0 starts ≡ done_packed net n leftBehind.tables.1
+  pub planning_packs : packing n lent left_behind.tables.0 starts ≡ done_packed net n left_behind.tables.1
   planning_packs = go (has_sides net n) refl
     where
-      go : (b : Bool) → has_sides net n ≡ b → packing n lent leftBehind.tables.0 starts ≡ done_packed net n leftBehind.tables.1
+      go : (b : Bool) → has_sides net n ≡ b → packing n lent left_behind.tables.0 starts ≡ done_packed net n left_behind.tables.1
       go true e = unfold done_planned in
-          (rw (sided-is (is_high net n) (found_sides net n plannable.network.few (network_good n lent plannable.network) e).split)
+          (rw (sided_is (is_high net n) (found_sides net n plannable.network.few (network_good n lent plannable.network) e).split)
           (packable_packing n lent (two_sided n (is_high net n) order) starts sided))
       go false e =
-          rw (improved-is e)
+          rw (improved_is e)
           (improving_packs n lent (greedy (lowest net) n starts order n) starts seed rounds
-          (sym (ap (λ (r : Left Planned (List ℕ × List ℕ)). r.answer.number) (improved-is e)) ∙ zero-answer))
+          (sym (ap (λ (r : Left Planned (List ℕ × List ℕ)). r.answer.number) (improved_is e)) ∙ zero-answer))
 
-  pub planning_highest : leftBehind.answer.highest ≡ highest net (at leftBehind.tables.1) n
+  pub planning_highest : left_behind.answer.highest ≡ highest net (at left_behind.tables.1) n
   unfolding done_plan done_planned done_improved
   planning_highest =
       rw (plannable_planning n lent order starts seed rounds plannable)
@@ -116,26 +116,26 @@ module _ (n : ℕ) (lent : Lent) (order starts : List ℕ) (seed rounds : ℕ) (
       either false x y g h = h
 
   -- the plan is valid, and the order an order
-  pub planning_valid : Valid net n (at leftBehind.tables.1)
+  pub planning_valid : Valid net n (at left_behind.tables.1)
   planning_valid = go (has_sides net n) refl
     where
-      go : (b : Bool) → has_sides net n ≡ b → Valid net n (at leftBehind.tables.1)
+      go : (b : Bool) → has_sides net n ≡ b → Valid net n (at left_behind.tables.1)
       go true e = unfold done_planned in
-          (rw (sided-is (is_high net n) (found_sides net n plannable.network.few (network_good n lent plannable.network) e).split)
+          (rw (sided_is (is_high net n) (found_sides net n plannable.network.few (network_good n lent plannable.network) e).split)
           (plan_valid n lent (two_sided n (is_high net n) order) starts sided))
       go false e =
-          rw (improved-is e)
+          rw (improved_is e)
           (improving_valid n lent (greedy (lowest net) n starts order n) starts seed rounds
-          (sym (ap (λ (r : Left Planned (List ℕ × List ℕ)). r.answer.number) (improved-is e)) ∙ zero-answer))
+          (sym (ap (λ (r : Left Planned (List ℕ × List ℕ)). r.answer.number) (improved_is e)) ∙ zero-answer))
 
-  pub planning_order : Once (at leftBehind.tables.0) n
+  pub planning_order : Once (at left_behind.tables.0) n
   planning_order = go (has_sides net n) refl
     where
-      go : (b : Bool) → has_sides net n ≡ b → Once (at leftBehind.tables.0) n
+      go : (b : Bool) → has_sides net n ≡ b → Once (at left_behind.tables.0) n
       go true e = unfold done_planned in
-          (rw (sided-is (is_high net n) (found_sides net n plannable.network.few (network_good n lent plannable.network) e).split)
+          (rw (sided_is (is_high net n) (found_sides net n plannable.network.few (network_good n lent plannable.network) e).split)
           (order_once (at (two_sided n (is_high net n) order)) n sided.whole))
       go false e =
-          rw (improved-is e)
+          rw (improved_is e)
           (improving_order n lent (greedy (lowest net) n starts order n) starts seed rounds
-          (sym (ap (λ (r : Left Planned (List ℕ × List ℕ)). r.answer.number) (improved-is e)) ∙ zero-answer))
+          (sym (ap (λ (r : Left Planned (List ℕ × List ℕ)). r.answer.number) (improved_is e)) ∙ zero-answer))

@@ -35,26 +35,26 @@ module _ (n : ℕ) (lent : Lent) (starts : List ℕ) (zero-answer : (pressing n 
   room : n ≤ length starts
   room = omega (arith, judgeable.legal.size, judgeable.network.few)
 
-  press-is : press ≡ done_pressed net n (pressed net n starts)
-  press-is = judgeable_pressing n lent starts judgeable
+  press_is : press ≡ done_pressed net n (pressed net n starts)
+  press_is = judgeable_pressing n lent starts judgeable
 
   -- a valid plan that keeps for each conflicting pair which is lower
   pub pressing_valid : Valid net n (at press.tables)
   unfolding done_pressed
-  pressing_valid = rw press-is (press_valid net n good few starts room judgeable.valid)
+  pressing_valid = rw press_is (press_valid net n good few starts room judgeable.valid)
 
   pub pressing_sides : SameSides net n (at starts) (at press.tables)
   unfolding done_pressed
-  pressing_sides = rw press-is (press_sides net n good few starts room judgeable.valid)
+  pressing_sides = rw press_is (press_sides net n good few starts room judgeable.valid)
 
   -- no valid plan of those sides puts any path lower
   pub pressing_least : (plan : ℕ → ℕ) → Valid net n plan → SameSides net n (at starts) plan → (k : ℕ) → k < n → at press.tables k ≤ plan k
   unfolding done_pressed
-  pressing_least plan v s = rw press-is (press_least net n good few starts room judgeable.valid plan v s)
+  pressing_least plan v s = rw press_is (press_least net n good few starts room judgeable.valid plan v s)
 
   pub pressing_highest : press.answer.highest ≡ highest net (at press.tables) n
   unfolding done_pressed
-  pressing_highest = rw press-is
+  pressing_highest = rw press_is
 
   -- so its highest slot is the least too
   pub pressing_lowest : (plan : ℕ → ℕ) → Valid net n plan → SameSides net n (at starts) plan → press.answer.highest ≤ highest net plan n
@@ -77,13 +77,13 @@ module _ (n : ℕ) (lent : Lent) (starts : List ℕ) (zero-answer : (pressing n 
   }
     where
       size : length press.tables ≡ 128
-      size = unfold done_pressed in (rw press-is (press_length net n good few starts room judgeable.valid ∙ judgeable.legal.size))
+      size = unfold done_pressed in (rw press_is (press_length net n good few starts room judgeable.valid ∙ judgeable.legal.size))
 
   pub pressing_again : pressing n lent press.tables ≡ press
   pressing_again = judgeable_pressing n lent press.tables pressed_judgeable ∙ same
     where
       same : done_pressed net n (pressed net n press.tables) ≡ press
-      same = unfold done_pressed in (rw (press-is, press_again net n good few starts room judgeable.valid))
+      same = unfold done_pressed in (rw (press_is, press_again net n good few starts room judgeable.valid))
 
 -- two valid plans with the same sides press to the same plan, of the same highest slot
 pub pressing_same : (n : ℕ) (lent : Lent) (starts others : List ℕ) → (pressing n lent starts).answer.number ≡ 0 → (pressing n lent others).answer.number ≡ 0
@@ -115,8 +115,8 @@ module _ (n : ℕ) (lent : Lent) (order reverse starts others : List ℕ) (zero-
   packable : Packable n lent order starts
   packable = packing_packable n lent order starts zero-answer
 
-  reverse-packable : Packable n lent reverse others
-  reverse-packable = record {
+  reverse_packable : Packable n lent reverse others
+  reverse_packable = record {
     network = packable.network;
     order_size = size;
     starts_size = room;
@@ -130,8 +130,8 @@ module _ (n : ℕ) (lent : Lent) (order reverse starts others : List ℕ) (zero-
       × ((packing n lent order starts).answer.highest ≡ (packing n lent reverse others).answer.highest)
   unfolding done_packed
   packing_reverse =
-      rw (packable_packing n lent order starts packable, packable_packing n lent reverse others reverse-packable) (
+      rw (packable_packing n lent order starts packable, packable_packing n lent reverse others reverse_packable) (
         refl,
         reverse_law (net_of lent) n (network_good n lent packable.network) (λ k l. refl) (at order) (at reverse) packable.whole
-            reverse-packable.whole rev starts others (omega (arith, packable.starts_size, packable.network.few)) (omega (arith, packable.network.few)),
+            reverse_packable.whole rev starts others (omega (arith, packable.starts_size, packable.network.few)) (omega (arith, packable.network.few)),
       )

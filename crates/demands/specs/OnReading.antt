@@ -25,7 +25,7 @@ use Rattle.plan_laws.specs.Answers.{unless_done, unless_refused}
 use Rattle.sheet_laws.specs.Lines.{starts_none, starts_some, part_ill, part_count, part_halt, guards_ill, guards_many, guards_halt, guards_rest, sheet_ill, sheet_few, sheet_many, sheet_halt, sheet_later, sheet_done}
 use Rattle.sheet_laws.specs.Writes.{count_length}
 use Rattle.demands.specs.Forms.{CountForm, count_form, form_count}
-use Rattle.demands.specs.OnLines.{PathSays, form, label_twice, width, fine, GuardSays, unknown, itself, pairTwice, over, StartSays, other, path_says, guard_says, start_says, FirstRight, start, LinesSay, stops, ends, lines_say, lines_only}
+use Rattle.demands.specs.OnLines.{PathSays, form, label_twice, width, fine, GuardSays, unknown, itself, pair_twice, over, StartSays, other, path_says, guard_says, start_says, FirstRight, start, LinesSay, stops, ends, lines_say, lines_only}
 
 -- no count of the section stands here: "a missing line is 11", too
 abbrev pub NoCount : List ℕ → List ℕ → Type 0
@@ -60,36 +60,36 @@ pub record StartsRight (l : List ℕ) (n : ℕ) (labels widths : List ℕ) (m : 
 -- What a whole sheet comes to. Its first line at fault, as the number and the line: line 1 is the paths'
 -- count, n + 2 the guards', n + m + 3 the starts'
 pub data SheetWrong (l : List ℕ) : ℕ → ℕ → Type 0 where
-  pathsForm : NoCount paths_word l → SheetWrong l 11 1
-  pathsCount : (n : ℕ) (r : List ℕ) → CountForm paths_word l n r → (n < 1) ⊎ (128 < n) → SheetWrong l 1 1
-  pathLineWrong : (n : ℕ) (l₁ : List ℕ) → CountForm paths_word l n l₁ → 1 ≤ n → n ≤ 128
+  paths_form : NoCount paths_word l → SheetWrong l 11 1
+  paths_count : (n : ℕ) (r : List ℕ) → CountForm paths_word l n r → (n < 1) ⊎ (128 < n) → SheetWrong l 1 1
+  path_line_wrong : (n : ℕ) (l₁ : List ℕ) → CountForm paths_word l n l₁ → 1 ≤ n → n ≤ 128
       → (k : ℕ) (t : List ℕ × List ℕ) (l₂ : List ℕ) (x : ℕ) → k < n → FirstRight path_step (cleared 1024 0, cleared 128 0) l₁ k t l₂
       → path_step k t l₂ ≡ wrong x → SheetWrong l x (2 + k)
-  guardsForm : (n : ℕ) (labels widths l₂ : List ℕ) → PathsRight l n labels widths l₂ → NoCount guards_word l₂ → SheetWrong l 11 (n + 2)
-  guardsCount : (n : ℕ) (labels widths l₂ : List ℕ) → PathsRight l n labels widths l₂ → (m : ℕ) (r : List ℕ) → CountForm guards_word l₂ m r → 2000 < m
+  guards_form : (n : ℕ) (labels widths l₂ : List ℕ) → PathsRight l n labels widths l₂ → NoCount guards_word l₂ → SheetWrong l 11 (n + 2)
+  guards_count : (n : ℕ) (labels widths l₂ : List ℕ) → PathsRight l n labels widths l₂ → (m : ℕ) (r : List ℕ) → CountForm guards_word l₂ m r → 2000 < m
       → SheetWrong l 1 (n + 2)
-  guardLineWrong : (n : ℕ) (labels widths l₂ : List ℕ) → PathsRight l n labels widths l₂ → (m : ℕ) (l₃ : List ℕ) → CountForm guards_word l₂ m l₃ → m ≤ 2000
+  guard_line_wrong : (n : ℕ) (labels widths l₂ : List ℕ) → PathsRight l n labels widths l₂ → (m : ℕ) (l₃ : List ℕ) → CountForm guards_word l₂ m l₃ → m ≤ 2000
       → (k : ℕ) (t l₄ : List ℕ) (x : ℕ) → k < m → FirstRight (guard_step n labels) (cleared 16384 255) l₃ k t l₄
       → guard_step n labels k t l₄ ≡ wrong x → SheetWrong l x (n + 3 + k)
-  startsForm : (n : ℕ) (labels widths : List ℕ) (m : ℕ) (guards : List ℕ) (y : ℕ) (r : List ℕ) → GuardsRight l n labels widths m guards (y ∷ r)
+  starts_form : (n : ℕ) (labels widths : List ℕ) (m : ℕ) (guards : List ℕ) (y : ℕ) (r : List ℕ) → GuardsRight l n labels widths m guards (y ∷ r)
       → NoCount starts_word (y ∷ r) → SheetWrong l 11 (n + m + 3)
-  startsCount : (n : ℕ) (labels widths : List ℕ) (m : ℕ) (guards l₄ : List ℕ) → GuardsRight l n labels widths m guards l₄
+  starts_count : (n : ℕ) (labels widths : List ℕ) (m : ℕ) (guards l₄ : List ℕ) → GuardsRight l n labels widths m guards l₄
       → (c : ℕ) (r : List ℕ) → CountForm starts_word l₄ c r → c ≢ n → SheetWrong l 1 (n + m + 3)
-  startLineWrong : (n : ℕ) (labels widths : List ℕ) (m : ℕ) (guards : List ℕ) (k : ℕ) (t l₆ : List ℕ) (x : ℕ) → k < n → StartsRight l n labels widths m guards k t l₆
+  start_line_wrong : (n : ℕ) (labels widths : List ℕ) (m : ℕ) (guards : List ℕ) (k : ℕ) (t l₆ : List ℕ) (x : ℕ) → k < n → StartsRight l n labels widths m guards k t l₆
       → start_step labels k t l₆ ≡ wrong x → SheetWrong l x (n + m + 3 + 1 + k)
-  leftOver : (n : ℕ) (labels widths : List ℕ) (m : ℕ) (guards starts : List ℕ) (y : ℕ) (r : List ℕ) → StartsRight l n labels widths m guards n starts (y ∷ r)
+  left_over : (n : ℕ) (labels widths : List ℕ) (m : ℕ) (guards starts : List ℕ) (y : ℕ) (r : List ℕ) → StartsRight l n labels widths m guards n starts (y ∷ r)
       → SheetWrong l 11 (n + m + 3 + 1 + n)
 
 -- or no line is at fault: the number of paths, and what the tables then hold
 pub data SheetRight (l : List ℕ) : ℕ × List ℕ × Lent × List ℕ → Type 0 where
-  withoutPlan : (n : ℕ) (labels widths : List ℕ) (m : ℕ) (guards : List ℕ) → GuardsRight l n labels widths m guards []
+  without_plan : (n : ℕ) (labels widths : List ℕ) (m : ℕ) (guards : List ℕ) → GuardsRight l n labels widths m guards []
       → SheetRight l (n, labels, lend widths guards, cleared 128 0)
-  withPlan : (n : ℕ) (labels widths : List ℕ) (m : ℕ) (guards starts : List ℕ) → StartsRight l n labels widths m guards n starts []
+  with_plan : (n : ℕ) (labels widths : List ℕ) (m : ℕ) (guards starts : List ℕ) → StartsRight l n labels widths m guards n starts []
       → SheetRight l (n, labels, lend widths guards, starts)
 
 -- one of the two
 pub data SheetSays (l : List ℕ) : Type 0 where
-  wrongAt : (x y : ℕ) → SheetWrong l x y → SheetSays l
+  wrong_at : (x y : ℕ) → SheetWrong l x y → SheetSays l
   rightly : (t : ℕ × List ℕ × Lent × List ℕ) → SheetRight l t → SheetSays l
 
 -- a count stands in front of a text, or none does
@@ -123,18 +123,18 @@ starts_end n line labels starts (y ∷ u) l₅ l₆ e some_byte f = rw (e, eq-eq
 
 module _ (l : List ℕ) where
   module _ (n : ℕ) (labels widths l₂ : List ℕ) (p : PathsRight l n labels widths l₂) where
-    paths-done : lines path_step 2 n 0 (cleared 1024 0, cleared 128 0) p.l₁ ≡ done (labels, widths) l₂
-    paths-done = lines_only path_step 2 (cleared 1024 0, cleared 128 0) p.l₁ n _ (ends (labels, widths) l₂ p.each)
+    paths_done : lines path_step 2 n 0 (cleared 1024 0, cleared 128 0) p.l₁ ≡ done (labels, widths) l₂
+    paths_done = lines_only path_step 2 (cleared 1024 0, cleared 128 0) p.l₁ n _ (ends (labels, widths) l₂ p.each)
 
     -- what the guards and the starts come to, the sheet comes to
-    rest-halts : (x y : ℕ) → guards_part n labels (cleared 16384 255) (cleared 128 0) l₂ ≡ halt x y → sheet_read l ≡ halt x y
-    rest-halts x y e =
-        sheet_later (cleared 1024 0) cleared_network (cleared 128 0) l n p.l₁ (form_count paths_word l n p.l₁ p.count) p.least p.most labels widths l₂ paths-done x y e
+    rest_halts : (x y : ℕ) → guards_part n labels (cleared 16384 255) (cleared 128 0) l₂ ≡ halt x y → sheet_read l ≡ halt x y
+    rest_halts x y e =
+        sheet_later (cleared 1024 0) cleared_network (cleared 128 0) l n p.l₁ (form_count paths_word l n p.l₁ p.count) p.least p.most labels widths l₂ paths_done x y e
 
-    rest-done : (guards starts l₃ : List ℕ) → guards_part n labels (cleared 16384 255) (cleared 128 0) l₂ ≡ done (guards, starts) l₃
+    rest_done : (guards starts l₃ : List ℕ) → guards_part n labels (cleared 16384 255) (cleared 128 0) l₂ ≡ done (guards, starts) l₃
         → sheet_read l ≡ done (n, labels, lend widths guards, starts) []
-    rest-done guards starts l₃ e =
-        sheet_done (cleared 1024 0) cleared_network (cleared 128 0) l n p.l₁ (form_count paths_word l n p.l₁ p.count) p.least p.most labels widths l₂ paths-done guards starts l₃ e
+    rest_done guards starts l₃ e =
+        sheet_done (cleared 1024 0) cleared_network (cleared 128 0) l n p.l₁ (form_count paths_word l n p.l₁ p.count) p.least p.most labels widths l₂ paths_done guards starts l₃ e
 
   module _ (n : ℕ) (labels widths : List ℕ) (m : ℕ) (guards l₄ : List ℕ) (g : GuardsRight l n labels widths m guards l₄) where
     guards_then : guards_part n labels (cleared 16384 255) (cleared 128 0) g.l₂ ≡ after (starts_part n (n + m + 3) labels (cleared 128 0) l₄) (λ (s r : List ℕ). done (guards, s) r)
@@ -142,20 +142,20 @@ module _ (l : List ℕ) where
         guards_rest n labels (cleared 16384 255) (cleared 128 0) g.l₂ m g.l₃ (form_count guards_word g.l₂ m g.l₃ g.count) g.most guards l₄
         (lines_only (guard_step n labels) (n + 3) (cleared 16384 255) g.l₃ m _ (ends guards l₄ g.each))
 
-    starts-halt-sheet : (x y : ℕ) → starts_part n (n + m + 3) labels (cleared 128 0) l₄ ≡ halt x y → sheet_read l ≡ halt x y
+    starts_halt_sheet : (x y : ℕ) → starts_part n (n + m + 3) labels (cleared 128 0) l₄ ≡ halt x y → sheet_read l ≡ halt x y
     unfolding after
-    starts-halt-sheet x y e = rest-halts n labels widths g.l₂ g.paths x y (guards_then ∙ rw e)
+    starts_halt_sheet x y e = rest_halts n labels widths g.l₂ g.paths x y (guards_then ∙ rw e)
 
-    starts-done-sheet : (starts r : List ℕ) → starts_part n (n + m + 3) labels (cleared 128 0) l₄ ≡ done starts r → sheet_read l ≡ done (n, labels, lend widths guards, starts) []
+    starts_done_sheet : (starts r : List ℕ) → starts_part n (n + m + 3) labels (cleared 128 0) l₄ ≡ done starts r → sheet_read l ≡ done (n, labels, lend widths guards, starts) []
     unfolding after
-    starts-done-sheet starts r e = rest-done n labels widths g.l₂ g.paths guards starts r (guards_then ∙ rw e)
+    starts_done_sheet starts r e = rest_done n labels widths g.l₂ g.paths guards starts r (guards_then ∙ rw e)
 
   module _ (n : ℕ) (labels widths : List ℕ) (m : ℕ) (guards : List ℕ) (k : ℕ) (starts l₆ : List ℕ) (s : StartsRight l n labels widths m guards k starts l₆) where
     counted_is : count_line starts_word s.l₄ ≡ some n s.l₅
     counted_is = form_count starts_word s.l₄ n s.l₅ s.count
 
-    some-text : 0 < length s.l₄
-    some-text = go s.l₄ s.count.text
+    some_text : 0 < length s.l₄
+    some_text = go s.l₄ s.count.text
       where
         go : (u : List ℕ) → u ≡ count_text starts_word n ++ s.l₅ → 0 < length u
         go [] e = absurd (omega (arith, ap length e, length-append (count_text starts_word n) s.l₅, count_length starts_word n))
@@ -164,104 +164,104 @@ module _ (l : List ℕ) where
   -- each of these is what the sheet comes to
   pub wrong_only : (x y : ℕ) → SheetWrong l x y → sheet_read l ≡ halt x y
   unfolding ended
-  wrong_only x y (pathsForm h) = sheet_ill (cleared 1024 0) cleared_network (cleared 128 0) l (none_count paths_word l h)
-  wrong_only x y (pathsCount n r c (inl a)) = sheet_few (cleared 1024 0) cleared_network (cleared 128 0) l n r (form_count paths_word l n r c) a
-  wrong_only x y (pathsCount n r c (inr a)) = sheet_many (cleared 1024 0) cleared_network (cleared 128 0) l n r (form_count paths_word l n r c) a
-  wrong_only x y (pathLineWrong n l₁ c a b k t l₂ z h f e) =
+  wrong_only x y (paths_form h) = sheet_ill (cleared 1024 0) cleared_network (cleared 128 0) l (none_count paths_word l h)
+  wrong_only x y (paths_count n r c (inl a)) = sheet_few (cleared 1024 0) cleared_network (cleared 128 0) l n r (form_count paths_word l n r c) a
+  wrong_only x y (paths_count n r c (inr a)) = sheet_many (cleared 1024 0) cleared_network (cleared 128 0) l n r (form_count paths_word l n r c) a
+  wrong_only x y (path_line_wrong n l₁ c a b k t l₂ z h f e) =
       sheet_halt (cleared 1024 0) cleared_network (cleared 128 0) l n l₁ (form_count paths_word l n l₁ c) a b z (2 + k)
       (lines_only path_step 2 (cleared 1024 0, cleared 128 0) l₁ n _ (stops k t l₂ z h f e))
-  wrong_only x y (guardsForm n labels widths l₂ p h) =
-      rest-halts n labels widths l₂ p 11 (n + 2) (guards_ill n labels (cleared 16384 255) (cleared 128 0) l₂ (none_count guards_word l₂ h))
-  wrong_only x y (guardsCount n labels widths l₂ p m r c h) =
-      rest-halts n labels widths l₂ p 1 (n + 2) (guards_many n labels (cleared 16384 255) (cleared 128 0) l₂ m r (form_count guards_word l₂ m r c) h)
-  wrong_only x y (guardLineWrong n labels widths l₂ p m l₃ c b k t l₄ z h f e) =
-      rest-halts n labels widths l₂ p z (n + 3 + k)
+  wrong_only x y (guards_form n labels widths l₂ p h) =
+      rest_halts n labels widths l₂ p 11 (n + 2) (guards_ill n labels (cleared 16384 255) (cleared 128 0) l₂ (none_count guards_word l₂ h))
+  wrong_only x y (guards_count n labels widths l₂ p m r c h) =
+      rest_halts n labels widths l₂ p 1 (n + 2) (guards_many n labels (cleared 16384 255) (cleared 128 0) l₂ m r (form_count guards_word l₂ m r c) h)
+  wrong_only x y (guard_line_wrong n labels widths l₂ p m l₃ c b k t l₄ z h f e) =
+      rest_halts n labels widths l₂ p z (n + 3 + k)
       (guards_halt n labels (cleared 16384 255) (cleared 128 0) l₂ m l₃ (form_count guards_word l₂ m l₃ c) b z (n + 3 + k)
       (lines_only (guard_step n labels) (n + 3) (cleared 16384 255) l₃ m _ (stops k t l₄ z h f e)))
-  wrong_only x y (startsForm n labels widths m guards z r g h) =
-      starts-halt-sheet n labels widths m guards (z ∷ r) g 11 (n + m + 3) (starts_some n (n + m + 3) labels (cleared 128 0) (z ∷ r) 0 (omega arith)
+  wrong_only x y (starts_form n labels widths m guards z r g h) =
+      starts_halt_sheet n labels widths m guards (z ∷ r) g 11 (n + m + 3) (starts_some n (n + m + 3) labels (cleared 128 0) (z ∷ r) 0 (omega arith)
       ∙ part_ill starts_word (start_step labels) n (n + m + 3) (cleared 128 0) (z ∷ r) 0 (none_count starts_word (z ∷ r) h))
-  wrong_only x y (startsCount n labels widths m guards [] g c r f h) = absurd (omega (arith, ap length f.text, length-append (count_text starts_word c) r, count_length starts_word c))
-  wrong_only x y (startsCount n labels widths m guards (z ∷ u) g c r f h) =
-      starts-halt-sheet n labels widths m guards (z ∷ u) g 1 (n + m + 3) (starts_some n (n + m + 3) labels (cleared 128 0) (z ∷ u) 0 (omega arith)
+  wrong_only x y (starts_count n labels widths m guards [] g c r f h) = absurd (omega (arith, ap length f.text, length-append (count_text starts_word c) r, count_length starts_word c))
+  wrong_only x y (starts_count n labels widths m guards (z ∷ u) g c r f h) =
+      starts_halt_sheet n labels widths m guards (z ∷ u) g 1 (n + m + 3) (starts_some n (n + m + 3) labels (cleared 128 0) (z ∷ u) 0 (omega arith)
       ∙ part_count starts_word (start_step labels) n (n + m + 3) (cleared 128 0) (z ∷ u) 0 c r (form_count starts_word (z ∷ u) c r f) h)
-  wrong_only x y (startLineWrong n labels widths m guards k t l₆ z h s e) =
-      starts-halt-sheet n labels widths m guards s.l₄ s.guarded z (n + m + 3 + 1 + k)
-      (starts_some n (n + m + 3) labels (cleared 128 0) s.l₄ 0 (some-text n labels widths m guards k t l₆ s)
+  wrong_only x y (start_line_wrong n labels widths m guards k t l₆ z h s e) =
+      starts_halt_sheet n labels widths m guards s.l₄ s.guarded z (n + m + 3 + 1 + k)
+      (starts_some n (n + m + 3) labels (cleared 128 0) s.l₄ 0 (some_text n labels widths m guards k t l₆ s)
       ∙ part_halt starts_word (start_step labels) n (n + m + 3) (cleared 128 0) s.l₄ 0 n s.l₅ (counted_is n labels widths m guards k t l₆ s) refl z (n + m + 3 + 1 + k)
       (lines_only (start_step labels) (n + m + 3 + 1) (cleared 128 0) s.l₅ n _ (stops k t l₆ z h s.each e)))
-  wrong_only x y (leftOver n labels widths m guards starts z r s) =
-      starts-halt-sheet n labels widths m guards s.l₄ s.guarded 11 (n + m + 3 + 1 + n)
-      (starts_end n (n + m + 3) labels starts s.l₄ s.l₅ (z ∷ r) (counted_is n labels widths m guards n starts (z ∷ r) s) (some-text n labels widths m guards n starts (z ∷ r) s)
+  wrong_only x y (left_over n labels widths m guards starts z r s) =
+      starts_halt_sheet n labels widths m guards s.l₄ s.guarded 11 (n + m + 3 + 1 + n)
+      (starts_end n (n + m + 3) labels starts s.l₄ s.l₅ (z ∷ r) (counted_is n labels widths m guards n starts (z ∷ r) s) (some_text n labels widths m guards n starts (z ∷ r) s)
       (lines_only (start_step labels) (n + m + 3 + 1) (cleared 128 0) s.l₅ n _ (ends starts (z ∷ r) s.each)))
 
   pub right_only : (t : ℕ × List ℕ × Lent × List ℕ) → SheetRight l t → sheet_read l ≡ done t []
   unfolding ended
-  right_only t (withoutPlan n labels widths m guards g) =
-      starts-done-sheet n labels widths m guards [] g (cleared 128 0) [] (starts_none n (n + m + 3) labels (cleared 128 0) [] 0 (omega arith))
-  right_only t (withPlan n labels widths m guards starts s) =
-      starts-done-sheet n labels widths m guards s.l₄ s.guarded starts []
-      (starts_end n (n + m + 3) labels starts s.l₄ s.l₅ [] (counted_is n labels widths m guards n starts [] s) (some-text n labels widths m guards n starts [] s)
+  right_only t (without_plan n labels widths m guards g) =
+      starts_done_sheet n labels widths m guards [] g (cleared 128 0) [] (starts_none n (n + m + 3) labels (cleared 128 0) [] 0 (omega arith))
+  right_only t (with_plan n labels widths m guards starts s) =
+      starts_done_sheet n labels widths m guards s.l₄ s.guarded starts []
+      (starts_end n (n + m + 3) labels starts s.l₄ s.l₅ [] (counted_is n labels widths m guards n starts [] s) (some_text n labels widths m guards n starts [] s)
       (lines_only (start_step labels) (n + m + 3 + 1) (cleared 128 0) s.l₅ n _ (ends starts [] s.each)))
 
   -- and one of them holds
   pub sheet_says : SheetSays l
   sheet_says = paths (count_says paths_word l)
     where
-      starts-one : (n : ℕ) (labels widths : List ℕ) (m : ℕ) (guards l₄ : List ℕ) → GuardsRight l n labels widths m guards l₄ → SheetSays l
-      starts-one n labels widths m guards [] g = rightly _ (withoutPlan n labels widths m guards g)
-      starts-one n labels widths m guards (y ∷ u) g = counted-one (count_says starts_word (y ∷ u))
+      starts_one : (n : ℕ) (labels widths : List ℕ) (m : ℕ) (guards l₄ : List ℕ) → GuardsRight l n labels widths m guards l₄ → SheetSays l
+      starts_one n labels widths m guards [] g = rightly _ (without_plan n labels widths m guards g)
+      starts_one n labels widths m guards (y ∷ u) g = counted_one (count_says starts_word (y ∷ u))
         where
-          each-one : (l₅ : List ℕ) → CountForm starts_word (y ∷ u) n l₅ → (x : Section (List ℕ)) → LinesSay (start_step labels) 0 n (cleared 128 0) l₅ x
+          each_one : (l₅ : List ℕ) → CountForm starts_word (y ∷ u) n l₅ → (x : Section (List ℕ)) → LinesSay (start_step labels) 0 n (cleared 128 0) l₅ x
               → SheetSays l
-          each-one l₅ c x (stops k t l₆ z h f e) = wrongAt _ _ (startLineWrong n labels widths m guards k t l₆ z h (record { l₄ = y ∷ u; l₅ = l₅; guarded = g; count = c; each = f }) e)
-          each-one l₅ c x (ends t [] f) = rightly _ (withPlan n labels widths m guards t (record { l₄ = y ∷ u; l₅ = l₅; guarded = g; count = c; each = f }))
-          each-one l₅ c x (ends t (z ∷ r) f) = wrongAt _ _ (leftOver n labels widths m guards t z r (record { l₄ = y ∷ u; l₅ = l₅; guarded = g; count = c; each = f }))
+          each_one l₅ c x (stops k t l₆ z h f e) = wrong_at _ _ (start_line_wrong n labels widths m guards k t l₆ z h (record { l₄ = y ∷ u; l₅ = l₅; guarded = g; count = c; each = f }) e)
+          each_one l₅ c x (ends t [] f) = rightly _ (with_plan n labels widths m guards t (record { l₄ = y ∷ u; l₅ = l₅; guarded = g; count = c; each = f }))
+          each_one l₅ c x (ends t (z ∷ r) f) = wrong_at _ _ (left_over n labels widths m guards t z r (record { l₄ = y ∷ u; l₅ = l₅; guarded = g; count = c; each = f }))
 
-          counted-one : ((c : ℕ) × (r : List ℕ) × (count_line starts_word (y ∷ u) ≡ some c r)) ⊎ (count_line starts_word (y ∷ u) ≡ none) → SheetSays l
-          counted-one (inr e) = wrongAt _ _ (startsForm n labels widths m guards y u g (no_count starts_word (y ∷ u) e))
-          counted-one (inl c) = by (ℕ_discrete c.0 n)
+          counted_one : ((c : ℕ) × (r : List ℕ) × (count_line starts_word (y ∷ u) ≡ some c r)) ⊎ (count_line starts_word (y ∷ u) ≡ none) → SheetSays l
+          counted_one (inr e) = wrong_at _ _ (starts_form n labels widths m guards y u g (no_count starts_word (y ∷ u) e))
+          counted_one (inl c) = by (ℕ_discrete c.0 n)
             where
               f : CountForm starts_word (y ∷ u) c.0 c.1
               f = count_form starts_word (y ∷ u) c.0 c.1 c.2
 
               by : Dec (c.0 ≡ n) → SheetSays l
-              by (no h) = wrongAt _ _ (startsCount n labels widths m guards (y ∷ u) g c.0 c.1 f h)
-              by (yes q) = each-one c.1 (subst (λ k. CountForm starts_word (y ∷ u) k c.1) q f) _ (lines_say (start_step labels) 0 (cleared 128 0) c.1 n)
+              by (no h) = wrong_at _ _ (starts_count n labels widths m guards (y ∷ u) g c.0 c.1 f h)
+              by (yes q) = each_one c.1 (subst (λ k. CountForm starts_word (y ∷ u) k c.1) q f) _ (lines_say (start_step labels) 0 (cleared 128 0) c.1 n)
 
-      guards-one : (n : ℕ) (labels widths l₂ : List ℕ) → PathsRight l n labels widths l₂ → ((c : ℕ) × (r : List ℕ) × (count_line guards_word l₂ ≡ some c r)) ⊎ (count_line guards_word l₂ ≡ none)
+      guards_one : (n : ℕ) (labels widths l₂ : List ℕ) → PathsRight l n labels widths l₂ → ((c : ℕ) × (r : List ℕ) × (count_line guards_word l₂ ≡ some c r)) ⊎ (count_line guards_word l₂ ≡ none)
           → SheetSays l
-      guards-one n labels widths l₂ p (inr e) = wrongAt _ _ (guardsForm n labels widths l₂ p (no_count guards_word l₂ e))
-      guards-one n labels widths l₂ p (inl c) = by (dec_lt 2000 c.0)
+      guards_one n labels widths l₂ p (inr e) = wrong_at _ _ (guards_form n labels widths l₂ p (no_count guards_word l₂ e))
+      guards_one n labels widths l₂ p (inl c) = by (dec_lt 2000 c.0)
         where
           f : CountForm guards_word l₂ c.0 c.1
           f = count_form guards_word l₂ c.0 c.1 c.2
 
-          each-one : c.0 ≤ 2000 → (x : Section (List ℕ)) → LinesSay (guard_step n labels) 0 c.0 (cleared 16384 255) c.1 x → SheetSays l
-          each-one b x (stops k t l₄ z h g e) = wrongAt _ _ (guardLineWrong n labels widths l₂ p c.0 c.1 f b k t l₄ z h g e)
-          each-one b x (ends t l₄ g) = starts-one n labels widths c.0 t l₄ (record { l₂ = l₂; l₃ = c.1; paths = p; count = f; most = b; each = g })
+          each_one : c.0 ≤ 2000 → (x : Section (List ℕ)) → LinesSay (guard_step n labels) 0 c.0 (cleared 16384 255) c.1 x → SheetSays l
+          each_one b x (stops k t l₄ z h g e) = wrong_at _ _ (guard_line_wrong n labels widths l₂ p c.0 c.1 f b k t l₄ z h g e)
+          each_one b x (ends t l₄ g) = starts_one n labels widths c.0 t l₄ (record { l₂ = l₂; l₃ = c.1; paths = p; count = f; most = b; each = g })
 
           by : Dec (2000 < c.0) → SheetSays l
-          by (yes h) = wrongAt _ _ (guardsCount n labels widths l₂ p c.0 c.1 f h)
-          by (no h) = each-one (omega arith) _ (lines_say (guard_step n labels) 0 (cleared 16384 255) c.1 c.0)
+          by (yes h) = wrong_at _ _ (guards_count n labels widths l₂ p c.0 c.1 f h)
+          by (no h) = each_one (omega arith) _ (lines_say (guard_step n labels) 0 (cleared 16384 255) c.1 c.0)
 
       paths : ((c : ℕ) × (r : List ℕ) × (count_line paths_word l ≡ some c r)) ⊎ (count_line paths_word l ≡ none) → SheetSays l
-      paths (inr e) = wrongAt _ _ (pathsForm (no_count paths_word l e))
+      paths (inr e) = wrong_at _ _ (paths_form (no_count paths_word l e))
       paths (inl c) = by (dec_lt c.0 1) (dec_lt 128 c.0)
         where
           f : CountForm paths_word l c.0 c.1
           f = count_form paths_word l c.0 c.1 c.2
 
-          each-one : 1 ≤ c.0 → c.0 ≤ 128 → (x : Section (List ℕ × List ℕ)) → LinesSay path_step 0 c.0 (cleared 1024 0, cleared 128 0) c.1 x
+          each_one : 1 ≤ c.0 → c.0 ≤ 128 → (x : Section (List ℕ × List ℕ)) → LinesSay path_step 0 c.0 (cleared 1024 0, cleared 128 0) c.1 x
               → SheetSays l
-          each-one a b x (stops k t l₂ z h g e) = wrongAt _ _ (pathLineWrong c.0 c.1 f a b k t l₂ z h g e)
-          each-one a b x (ends t l₂ g) =
-              guards-one c.0 t.0 t.1 l₂ (record { l₁ = c.1; count = f; least = a; most = b; each = g }) (count_says guards_word l₂)
+          each_one a b x (stops k t l₂ z h g e) = wrong_at _ _ (path_line_wrong c.0 c.1 f a b k t l₂ z h g e)
+          each_one a b x (ends t l₂ g) =
+              guards_one c.0 t.0 t.1 l₂ (record { l₁ = c.1; count = f; least = a; most = b; each = g }) (count_says guards_word l₂)
 
           by : Dec (c.0 < 1) → Dec (128 < c.0) → SheetSays l
-          by (yes h) k = wrongAt _ _ (pathsCount c.0 c.1 f (inl h))
-          by (no h) (yes k) = wrongAt _ _ (pathsCount c.0 c.1 f (inr k))
-          by (no h) (no k) = each-one (omega arith) (omega arith) _ (lines_say path_step 0 (cleared 1024 0, cleared 128 0) c.1 c.0)
+          by (yes h) k = wrong_at _ _ (paths_count c.0 c.1 f (inl h))
+          by (no h) (yes k) = wrong_at _ _ (paths_count c.0 c.1 f (inr k))
+          by (no h) (no k) = each_one (omega arith) (omega arith) _ (lines_say path_step 0 (cleared 1024 0, cleared 128 0) c.1 c.0)
 
 -- A line that is missing is of wrong form
 pub missing_line : (k n : ℕ) (labels widths table : List ℕ)
@@ -286,7 +286,7 @@ guard_named : (n : ℕ) (labels guards l : List ℕ) (y : Line (List ℕ)) (x : 
 guard_named n labels guards l y x (form h) e = let q : 11 ≡ x = cc in (λ z. omega arith, λ z. omega arith)
 guard_named n labels guards l y x (unknown a b g r f h) e = let q : 13 ≡ x = cc in (λ z. omega arith, λ z. omega arith)
 guard_named n labels guards l y x (itself a b g r f i s t) e = let q : 13 ≡ x = cc in (λ z. omega arith, λ z. omega arith)
-guard_named n labels guards l y x (pairTwice a b g r f i j s t d c) e = let q : 14 ≡ x = cc in (λ z. omega arith, λ z. omega arith)
+guard_named n labels guards l y x (pair_twice a b g r f i j s t d c) e = let q : 14 ≡ x = cc in (λ z. omega arith, λ z. omega arith)
 guard_named n labels guards l y x (over a b g r f i j s t d c h) e = let q : 4 ≡ x = cc in (λ z. omega arith, λ z. omega arith)
 guard_named n labels guards l y x (fine a b g r f i j s t d c h) e = let z : ◌≡◌ {A = ℕ} 0 1 = cc in absurd (omega arith)
 
@@ -297,16 +297,16 @@ start_named labels k starts l y x (start w v r f h c) e = let q : 7 ≡ x = cc i
 start_named labels k starts l y x (fine w v r f h a b) e = let z : ◌≡◌ {A = ℕ} 0 1 = cc in absurd (omega arith)
 
 pub sheet_named : (l : List ℕ) (x y : ℕ) → SheetWrong l x y → Named x
-sheet_named l x y (pathsForm h) = (λ z. omega arith, λ z. omega arith)
-sheet_named l x y (pathsCount n r c h) = (λ z. omega arith, λ z. omega arith)
-sheet_named l x y (pathLineWrong n l₁ c a b k t l₂ u h f g) = path_named k t.0 t.1 l₂ _ u (path_says k t.0 t.1 l₂) g
-sheet_named l x y (guardsForm n labels widths l₂ p h) = (λ z. omega arith, λ z. omega arith)
-sheet_named l x y (guardsCount n labels widths l₂ p m r c h) = (λ z. omega arith, λ z. omega arith)
-sheet_named l x y (guardLineWrong n labels widths l₂ p m l₃ c b k t l₄ u h f g) = guard_named n labels t l₄ _ u (guard_says n labels k t l₄) g
-sheet_named l x y (startsForm n labels widths m guards u r g h) = (λ z. omega arith, λ z. omega arith)
-sheet_named l x y (startsCount n labels widths m guards l₄ g c r f h) = (λ z. omega arith, λ z. omega arith)
-sheet_named l x y (startLineWrong n labels widths m guards k t l₆ u h r g) = start_named labels k t l₆ _ u (start_says labels k t l₆) g
-sheet_named l x y (leftOver n labels widths m guards starts u r g) = (λ z. omega arith, λ z. omega arith)
+sheet_named l x y (paths_form h) = (λ z. omega arith, λ z. omega arith)
+sheet_named l x y (paths_count n r c h) = (λ z. omega arith, λ z. omega arith)
+sheet_named l x y (path_line_wrong n l₁ c a b k t l₂ u h f g) = path_named k t.0 t.1 l₂ _ u (path_says k t.0 t.1 l₂) g
+sheet_named l x y (guards_form n labels widths l₂ p h) = (λ z. omega arith, λ z. omega arith)
+sheet_named l x y (guards_count n labels widths l₂ p m r c h) = (λ z. omega arith, λ z. omega arith)
+sheet_named l x y (guard_line_wrong n labels widths l₂ p m l₃ c b k t l₄ u h f g) = guard_named n labels t l₄ _ u (guard_says n labels k t l₄) g
+sheet_named l x y (starts_form n labels widths m guards u r g h) = (λ z. omega arith, λ z. omega arith)
+sheet_named l x y (starts_count n labels widths m guards l₄ g c r f h) = (λ z. omega arith, λ z. omega arith)
+sheet_named l x y (start_line_wrong n labels widths m guards k t l₆ u h r g) = start_named labels k t l₆ _ u (start_says labels k t l₆) g
+sheet_named l x y (left_over n labels widths m guards starts u r g) = (λ z. omega arith, λ z. omega arith)
 
 -- The call. Its tables are of their sizes
 pub record SheetTables (labels : List ℕ) (lent : Lent) (starts : List ℕ) : Type 0 where
@@ -331,100 +331,100 @@ module _ (labels : List ℕ) (lent : Lent) (starts : List ℕ) where
       record { labels_size = size_clear labels 1024 b.0; widths_size = n.0; guards_size = n.1; starts_size = size_clear starts 128 b.1 }
 
   -- the only fault of sizes is 2, and its place is 0
-  two-or-none : (f : Fault) → Type 0
-  two-or-none f = (f ≡ fault 2 0) ⊎ (f ≡ no_fault)
+  two_or_none : (f : Fault) → Type 0
+  two_or_none f = (f ≡ fault 2 0) ⊎ (f ≡ no_fault)
 
-  size-two : (table : List ℕ) (size : ℕ) → two-or-none (size_fault table size)
-  unfolding size_fault two-or-none
-  size-two table size = go (not (eqb (length table) size))
+  size_two : (table : List ℕ) (size : ℕ) → two_or_none (size_fault table size)
+  unfolding size_fault two_or_none
+  size_two table size = go (not (eqb (length table) size))
     where
       go : (b : Bool) → (refuse_if b 2 0 ≡ fault 2 0) ⊎ (refuse_if b 2 0 ≡ no_fault)
       go true = inl (refuse_bad true 2 0 refl)
       go false = inr (refuse_not false 2 0 refl)
 
-  or-two : (a b : Fault) → two-or-none a → two-or-none b → two-or-none (a or_else b)
-  unfolding two-or-none
-  or-two a b (inl e) h = inl (or_first a b (λ z. omega (arith, ap (λ (f : Fault). f.number) e)) ∙ e)
-  or-two a b (inr e) (inl h) = inl (or_second a b (ap (λ (f : Fault). f.number) e) ∙ h)
-  or-two a b (inr e) (inr h) = inr (or_second a b (ap (λ (f : Fault). f.number) e) ∙ h)
+  or_two : (a b : Fault) → two_or_none a → two_or_none b → two_or_none (a or_else b)
+  unfolding two_or_none
+  or_two a b (inl e) h = inl (or_first a b (λ z. omega (arith, ap (λ (f : Fault). f.number) e)) ∙ e)
+  or_two a b (inr e) (inl h) = inl (or_second a b (ap (λ (f : Fault). f.number) e) ∙ h)
+  or_two a b (inr e) (inr h) = inr (or_second a b (ap (λ (f : Fault). f.number) e) ∙ h)
 
-  sizes-two : (sheet_sizes labels lent starts).number ≢ 0 → sheet_sizes labels lent starts ≡ fault 2 0
-  unfolding sheet_sizes network_sizes label_sizes two-or-none
-  sizes-two z = go (or-two _ _ (or-two _ _ (size-two lent.widths 128) (size-two lent.guards 16384)) (or-two _ _ (size-two labels 1024) (size-two starts 128)))
+  sizes_two : (sheet_sizes labels lent starts).number ≢ 0 → sheet_sizes labels lent starts ≡ fault 2 0
+  unfolding sheet_sizes network_sizes label_sizes two_or_none
+  sizes_two z = go (or_two _ _ (or_two _ _ (size_two lent.widths 128) (size_two lent.guards 16384)) (or_two _ _ (size_two labels 1024) (size_two starts 128)))
     where
       go : (f : (sheet_sizes labels lent starts ≡ fault 2 0) ⊎ (sheet_sizes labels lent starts ≡ no_fault)) → sheet_sizes labels lent starts ≡ fault 2 0
       go (inl e) = e
       go (inr e) = absurd (z (ap (λ (f : Fault). f.number) e))
 
 module _ (text labels : List ℕ) (lent : Lent) (starts : List ℕ) where
-  abbrev leftBehind : Left SheetRead (List ℕ × Lent × List ℕ)
-  leftBehind = reading text labels lent starts
+  abbrev left_behind : Left SheetRead (List ℕ × Lent × List ℕ)
+  left_behind = reading text labels lent starts
 
   -- 2 exactly when a lent table is not of its size: the tables are left as they were
-  pub reading_two : (SheetTables labels lent starts → ⊥) → leftBehind ≡ left (record { number = 2; place = 0; n = 0 }) (labels, lent, starts)
+  pub reading_two : (SheetTables labels lent starts → ⊥) → left_behind ≡ left (record { number = 2; place = 0; n = 0 }) (labels, lent, starts)
   unfolding reading
   reading_two h =
       let z : (sheet_sizes labels lent starts).number ≢ 0 = λ z. h (right_sizes labels lent starts z) in
       unless_refused (sheet_sizes labels lent starts) _ _ z
-      ∙ ap (λ (f : Fault). left {A = SheetRead} {T = List ℕ × Lent × List ℕ} (record { number = f.number; place = f.place; n = 0 }) (labels, lent, starts)) (sizes-two labels lent starts z)
+      ∙ ap (λ (f : Fault). left {A = SheetRead} {T = List ℕ × Lent × List ℕ} (record { number = f.number; place = f.place; n = 0 }) (labels, lent, starts)) (sizes_two labels lent starts z)
 
   -- otherwise: the first line at fault, with the tables cleared; or the tables that the lines leave
   module _ (s : SheetTables labels lent starts) where
-    reading-on : leftBehind ≡ read_outcome (sheet_read text)
+    reading_on : left_behind ≡ read_outcome (sheet_read text)
     unfolding reading
-    reading-on = unless_done (sheet_sizes labels lent starts) _ _ (sizes_right labels lent starts s)
+    reading_on = unless_done (sheet_sizes labels lent starts) _ _ (sizes_right labels lent starts s)
 
     pub reading_is : (t : ℕ × List ℕ × Lent × List ℕ) (r : List ℕ) → sheet_read text ≡ done t r
-        → leftBehind ≡ left (record { number = 0; place = 0; n = t.0 }) (t.1, t.2, t.3)
+        → left_behind ≡ left (record { number = 0; place = 0; n = t.0 }) (t.1, t.2, t.3)
     unfolding read_outcome
-    reading_is t r e = reading-on ∙ rw e
+    reading_is t r e = reading_on ∙ rw e
 
-    pub reading_halt : (x y : ℕ) → SheetWrong text x y → leftBehind ≡ left (record { number = x; place = y; n = 0 }) (cleared 1024 0, cleared_network, cleared 128 0)
+    pub reading_halt : (x y : ℕ) → SheetWrong text x y → left_behind ≡ left (record { number = x; place = y; n = 0 }) (cleared 1024 0, cleared_network, cleared 128 0)
     unfolding read_outcome
-    reading_halt x y h = reading-on ∙ rw (wrong_only text x y h)
+    reading_halt x y h = reading_on ∙ rw (wrong_only text x y h)
 
     pub reading_done : (t : ℕ × List ℕ × Lent × List ℕ) → SheetRight text t
-        → leftBehind ≡ left (record { number = 0; place = 0; n = t.0 }) (t.1, t.2, t.3)
+        → left_behind ≡ left (record { number = 0; place = 0; n = t.0 }) (t.1, t.2, t.3)
     reading_done t h = reading_is t [] (right_only text t h)
 
   -- a table of the wrong size, a first line at fault, or a sheet
   pub data ReadSays : Type 0 where
-    sizeWrong : (SheetTables labels lent starts → ⊥) → leftBehind ≡ left (record { number = 2; place = 0; n = 0 }) (labels, lent, starts) → ReadSays
-    lineWrong : SheetTables labels lent starts → (x y : ℕ) → SheetWrong text x y → Named x
-        → leftBehind ≡ left (record { number = x; place = y; n = 0 }) (cleared 1024 0, cleared_network, cleared 128 0) → ReadSays
-    sheetRight : SheetTables labels lent starts → (t : ℕ × List ℕ × Lent × List ℕ) → SheetRight text t
-        → leftBehind ≡ left (record { number = 0; place = 0; n = t.0 }) (t.1, t.2, t.3) → ReadSays
+    size_wrong : (SheetTables labels lent starts → ⊥) → left_behind ≡ left (record { number = 2; place = 0; n = 0 }) (labels, lent, starts) → ReadSays
+    line_wrong : SheetTables labels lent starts → (x y : ℕ) → SheetWrong text x y → Named x
+        → left_behind ≡ left (record { number = x; place = y; n = 0 }) (cleared 1024 0, cleared_network, cleared 128 0) → ReadSays
+    sheet_right : SheetTables labels lent starts → (t : ℕ × List ℕ × Lent × List ℕ) → SheetRight text t
+        → left_behind ≡ left (record { number = 0; place = 0; n = t.0 }) (t.1, t.2, t.3) → ReadSays
 
   pub reading_says : ReadSays
   reading_says = go (ℕ_discrete (sheet_sizes labels lent starts).number 0)
     where
       by : SheetTables labels lent starts → SheetSays text → ReadSays
-      by s (wrongAt x y h) = lineWrong s x y h (sheet_named text x y h) (reading_halt s x y h)
-      by s (rightly t h) = sheetRight s t h (reading_done s t h)
+      by s (wrong_at x y h) = line_wrong s x y h (sheet_named text x y h) (reading_halt s x y h)
+      by s (rightly t h) = sheet_right s t h (reading_done s t h)
 
       go : Dec ((sheet_sizes labels lent starts).number ≡ 0) → ReadSays
       go (yes z) = by (right_sizes labels lent starts z) (sheet_says text)
-      go (no z) = let h : SheetTables labels lent starts → ⊥ = λ s. z (sizes_right labels lent starts s) in sizeWrong h (reading_two h)
+      go (no z) = let h : SheetTables labels lent starts → ⊥ = λ s. z (sizes_right labels lent starts s) in size_wrong h (reading_two h)
 
   -- so 0 is answered exactly where the tables are of their sizes and every line is right
-  pub reading_right : leftBehind.answer.number ≡ 0
-      → SheetTables labels lent starts × SheetRight text (leftBehind.answer.n, leftBehind.tables.0, leftBehind.tables.1, leftBehind.tables.2)
+  pub reading_right : left_behind.answer.number ≡ 0
+      → SheetTables labels lent starts × SheetRight text (left_behind.answer.n, left_behind.tables.0, left_behind.tables.1, left_behind.tables.2)
   reading_right z = go reading_says
     where
       number : {r s : Left SheetRead (List ℕ × Lent × List ℕ)} → r ≡ s → r.answer.number ≡ s.answer.number
       number e = ap (λ (r : Left SheetRead (List ℕ × Lent × List ℕ)). r.answer.number) e
 
-      go : ReadSays → SheetTables labels lent starts × SheetRight text (leftBehind.answer.n, leftBehind.tables.0, leftBehind.tables.1, leftBehind.tables.2)
-      go (sizeWrong h e) = absurd (omega (arith, number e))
-      go (lineWrong s x y h n e) = absurd (n.0 (sym (number e) ∙ z))
-      go (sheetRight s t h e) =
+      go : ReadSays → SheetTables labels lent starts × SheetRight text (left_behind.answer.n, left_behind.tables.0, left_behind.tables.1, left_behind.tables.2)
+      go (size_wrong h e) = absurd (omega (arith, number e))
+      go (line_wrong s x y h n e) = absurd (n.0 (sym (number e) ∙ z))
+      go (sheet_right s t h e) =
           (s, subst (λ (u : Left SheetRead (List ℕ × Lent × List ℕ)). SheetRight text (u.answer.n, u.tables.0, u.tables.1, u.tables.2)) (sym e) h)
 
   -- a refused answer: n is 0; with 2 the tables are as they were, with any other number they are cleared
-  pub reading_refused : leftBehind.answer.number ≢ 0
-      → (leftBehind.answer.n ≡ 0)
-      × (((leftBehind.answer.number ≡ 2) × (leftBehind.tables ≡ (labels, lent, starts)))
-      ⊎ ((leftBehind.answer.number ≢ 2) × (leftBehind.tables ≡ (cleared 1024 0, cleared_network, cleared 128 0))))
+  pub reading_refused : left_behind.answer.number ≢ 0
+      → (left_behind.answer.n ≡ 0)
+      × (((left_behind.answer.number ≡ 2) × (left_behind.tables ≡ (labels, lent, starts)))
+      ⊎ ((left_behind.answer.number ≢ 2) × (left_behind.tables ≡ (cleared 1024 0, cleared_network, cleared 128 0))))
   reading_refused z = go reading_says
     where
       number : {r s : Left SheetRead (List ℕ × Lent × List ℕ)} → r ≡ s → r.answer.number ≡ s.answer.number
@@ -437,9 +437,9 @@ module _ (text labels : List ℕ) (lent : Lent) (starts : List ℕ) where
       tables e = ap (λ (r : Left SheetRead (List ℕ × Lent × List ℕ)). r.tables) e
 
       go : ReadSays
-          → (leftBehind.answer.n ≡ 0)
-          × (((leftBehind.answer.number ≡ 2) × (leftBehind.tables ≡ (labels, lent, starts)))
-          ⊎ ((leftBehind.answer.number ≢ 2) × (leftBehind.tables ≡ (cleared 1024 0, cleared_network, cleared 128 0))))
-      go (sizeWrong h e) = (paths e, inl (number e, tables e))
-      go (lineWrong s x y h n e) = (paths e, inr (λ q. n.1 (sym (number e) ∙ q), tables e))
-      go (sheetRight s t h e) = absurd (z (number e))
+          → (left_behind.answer.n ≡ 0)
+          × (((left_behind.answer.number ≡ 2) × (left_behind.tables ≡ (labels, lent, starts)))
+          ⊎ ((left_behind.answer.number ≢ 2) × (left_behind.tables ≡ (cleared 1024 0, cleared_network, cleared 128 0))))
+      go (size_wrong h e) = (paths e, inl (number e, tables e))
+      go (line_wrong s x y h n e) = (paths e, inr (λ q. n.1 (sym (number e) ∙ q), tables e))
+      go (sheet_right s t h e) = absurd (z (number e))

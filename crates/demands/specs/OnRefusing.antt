@@ -90,23 +90,23 @@ module _ (n : ℕ) (lent : Lent) (starts : List ℕ) where
   unfolding start_fault
   start_gives = scan_gives 7 n _ (bad_start starts) (omega arith) (λ k l. tells_outside 1 16384 (at starts k))
 
-  clash-gives : Network n lent → Gives (clash_test n (net_of lent) starts ∷ []) (clash_fault n (net_of lent) starts)
+  clash_gives : Network n lent → Gives (clash_test n (net_of lent) starts ∷ []) (clash_fault n (net_of lent) starts)
   unfolding clash_fault
-  clash-gives w =
+  clash_gives w =
       square_gives 8 n (Clash (net_of lent) (at starts)) _ (too_close (net_of lent) (at starts)) (short (net_of lent) (at starts)) (omega arith) w.few
       (λ i j l g. tells_clash (net_of lent) (at starts) i j (w.width i l).0 (w.width j g).0)
       (λ i j l g e. tells_short (net_of lent) (at starts) i j (omega (arith, w.few)) e)
 
-  judge-gives : Gives (judge_tests n lent starts) (judge_fault n lent starts)
+  judge_gives : Gives (judge_tests n lent starts) (judge_fault n lent starts)
   unfolding judge_tests judge_fault
-  judge-gives =
+  judge_gives =
       gives_append (lent_tests n lent (size_test starts 128 ∷ [])) _ (lent_fault n lent (size_fault starts 128)) _
       (lent_gives n lent _ (size_fault starts 128) (size_gives starts 128)) (λ z.
-      then (start_test n starts) _ (start_fault n starts) _ start_gives (λ _. clash-gives (lent_clear n lent (size_fault starts 128) z).0))
+      then (start_test n starts) _ (start_fault n starts) _ start_gives (λ _. clash_gives (lent_clear n lent (size_fault starts 128) z).0))
 
   pub judging_gives : Gives (judge_tests n lent starts) (judging n lent starts)
   unfolding judging
-  judging_gives = judge-gives
+  judging_gives = judge_gives
 
   abbrev press : Pressed
   press = (pressing n lent starts).answer
@@ -115,21 +115,21 @@ module _ (n : ℕ) (lent : Lent) (starts : List ℕ) where
   unfolding pressing refused_pressed done_pressed
   pressing_gives =
       unless_gives (λ (r : Left Pressed (List ℕ)). r.answer.number) (λ (r : Left Pressed (List ℕ)). r.answer.place) (λ (r : Left Pressed (List ℕ)). r.answer.short)
-      (judge_tests n lent starts) (judge_fault n lent starts) (refused_pressed starts) _ refl refl refl refl refl refl judge-gives
+      (judge_tests n lent starts) (judge_fault n lent starts) (refused_pressed starts) _ refl refl refl refl refl refl judge_gives
 
   -- why a path stands where it stands
   module _ (path : ℕ) (table : List ℕ) where
-    path-gives : Gives (path_test n path ∷ []) (path_fault n path)
+    path_gives : Gives (path_test n path ∷ []) (path_fault n path)
     unfolding path_fault
-    path-gives = refuse_gives 6 _ (leb n path) (omega arith) (tells_le n path)
+    path_gives = refuse_gives 6 _ (leb n path) (omega arith) (tells_le n path)
 
-    why-gives : Gives (why_tests n lent starts path table) (why_fault n lent starts path table)
+    why_gives : Gives (why_tests n lent starts path table) (why_fault n lent starts path table)
     unfolding why_tests why_fault
-    why-gives =
+    why_gives =
         gives_append (lent_tests n lent (size_test table 128 ∷ size_test starts 128 ∷ [])) _ (lent_fault n lent (plan_sizes table starts)) _
         (lent_gives n lent _ (plan_sizes table starts) (plan_sizes_give table starts)) (λ z.
         then (start_test n starts) _ (start_fault n starts) _ start_gives (λ _.
-        then (clash_test n (net_of lent) starts) _ (clash_fault n (net_of lent) starts) _ (clash-gives (lent_clear n lent (plan_sizes table starts) z).0) (λ _. path-gives)))
+        then (clash_test n (net_of lent) starts) _ (clash_fault n (net_of lent) starts) _ (clash_gives (lent_clear n lent (plan_sizes table starts) z).0) (λ _. path_gives)))
 
     abbrev why : Why
     why = (explaining n lent starts path table).answer
@@ -138,28 +138,28 @@ module _ (n : ℕ) (lent : Lent) (starts : List ℕ) where
     unfolding explaining refused_why done_why
     explaining_gives =
         unless_gives (λ (r : Left Why (List ℕ)). r.answer.number) (λ (r : Left Why (List ℕ)). r.answer.place) (λ (r : Left Why (List ℕ)). r.answer.short)
-        (why_tests n lent starts path table) (why_fault n lent starts path table) (refused_why table) _ refl refl refl refl refl refl why-gives
+        (why_tests n lent starts path table) (why_fault n lent starts path table) (refused_why table) _ refl refl refl refl refl refl why_gives
 
 -- packing, improving and planning
 module _ (n : ℕ) (lent : Lent) (order starts : List ℕ) where
-  sized-gives : Gives (lent_tests n lent (size_test order 128 ∷ size_test starts 128 ∷ [])) (lent_fault n lent (plan_sizes order starts))
-  sized-gives = lent_gives n lent _ (plan_sizes order starts) (plan_sizes_give order starts)
+  sized_gives : Gives (lent_tests n lent (size_test order 128 ∷ size_test starts 128 ∷ [])) (lent_fault n lent (plan_sizes order starts))
+  sized_gives = lent_gives n lent _ (plan_sizes order starts) (plan_sizes_give order starts)
 
-  pack-gives : Gives (pack_tests n lent order starts) (pack_fault n lent order starts)
+  pack_gives : Gives (pack_tests n lent order starts) (pack_fault n lent order starts)
   unfolding pack_tests pack_fault order_fault
-  pack-gives =
-      gives_append (lent_tests n lent (size_test order 128 ∷ size_test starts 128 ∷ [])) _ (lent_fault n lent (plan_sizes order starts)) _ sized-gives
+  pack_gives =
+      gives_append (lent_tests n lent (size_test order 128 ∷ size_test starts 128 ∷ [])) _ (lent_fault n lent (plan_sizes order starts)) _ sized_gives
       (λ z. scan_gives 6 n _ (bad_entry n order) (omega arith) (λ k l. tells_entry n order k))
 
-  pack-silent : Silent (pack_tests n lent order starts)
+  pack_silent : Silent (pack_tests n lent order starts)
   unfolding pack_tests
-  pack-silent = lent_silent n lent (size_test order 128 ∷ size_test starts 128 ∷ []) (entry_test n order ∷ []) (unsaid, (unsaid, tt)) (unsaid, tt)
+  pack_silent = lent_silent n lent (size_test order 128 ∷ size_test starts 128 ∷ []) (entry_test n order ∷ []) (unsaid, (unsaid, tt)) (unsaid, tt)
 
   pub packing_gives : Gives (pack_tests n lent order starts) (fault (packing n lent order starts).answer.number (packing n lent order starts).answer.place)
   unfolding packing refused_packed done_packed
   packing_gives =
       silent_gives (λ (r : Left Packed (List ℕ)). r.answer.number) (λ (r : Left Packed (List ℕ)). r.answer.place)
-      (pack_tests n lent order starts) (pack_fault n lent order starts) (refused_packed starts) _ refl refl refl refl pack-silent pack-gives
+      (pack_tests n lent order starts) (pack_fault n lent order starts) (refused_packed starts) _ refl refl refl refl pack_silent pack_gives
 
   module _ (seed rounds : ℕ) where
     abbrev improve : Left Planned (List ℕ × List ℕ)
@@ -170,8 +170,8 @@ module _ (n : ℕ) (lent : Lent) (order starts : List ℕ) where
     improving_gives =
         silent_gives (λ (r : Left Planned (List ℕ × List ℕ)). r.answer.number) (λ (r : Left Planned (List ℕ × List ℕ)). r.answer.place)
         (pack_tests n lent order starts ++ (rounds_test rounds ∷ [])) (pack_fault n lent order starts or_else rounds_fault rounds) (refused_planned order starts) _ refl refl refl refl
-        (silent_append (pack_tests n lent order starts) _ pack-silent (unsaid, tt))
-        (gives_append (pack_tests n lent order starts) _ (pack_fault n lent order starts) _ pack-gives (λ z. rounds_give rounds))
+        (silent_append (pack_tests n lent order starts) _ pack_silent (unsaid, tt))
+        (gives_append (pack_tests n lent order starts) _ (pack_fault n lent order starts) _ pack_gives (λ z. rounds_give rounds))
 
     abbrev plan : Left Planned (List ℕ × List ℕ)
     plan = planning n lent order starts seed rounds
@@ -182,7 +182,7 @@ module _ (n : ℕ) (lent : Lent) (order starts : List ℕ) where
         silent_gives (λ (r : Left Planned (List ℕ × List ℕ)). r.answer.number) (λ (r : Left Planned (List ℕ × List ℕ)). r.answer.place)
         (plan_tests n lent order starts rounds) (plan_fault n lent order starts rounds) (refused_planned order starts) _ refl refl
         done.0 done.1 (lent_silent n lent _ (rounds_test rounds ∷ []) (unsaid, (unsaid, tt)) (unsaid, tt))
-        (gives_append (lent_tests n lent (size_test order 128 ∷ size_test starts 128 ∷ [])) _ (lent_fault n lent (plan_sizes order starts)) _ sized-gives (λ z. rounds_give rounds))
+        (gives_append (lent_tests n lent (size_test order 128 ∷ size_test starts 128 ∷ [])) _ (lent_fault n lent (plan_sizes order starts)) _ sized_gives (λ z. rounds_give rounds))
       where
         either : (b : Bool) (x y : Left Planned (List ℕ × List ℕ)) → (x.answer.number ≡ 0) × (x.answer.place ≡ 0) → (y.answer.number ≡ 0) × (y.answer.place ≡ 0)
             → ((cond b x y).answer.number ≡ 0) × ((cond b x y).answer.place ≡ 0)
@@ -195,9 +195,9 @@ module _ (n : ℕ) (lent : Lent) (order starts : List ℕ) where
 -- the two-sided call: where the network is within the limits the marks find two sides exactly where there
 -- are some
 module _ (n : ℕ) (lent : Lent) (order : List ℕ) where
-  sides-give : Network n lent → Gives (sides_test n (net_of lent) ∷ []) (sides_fault n (net_of lent))
+  sides_give : Network n lent → Gives (sides_test n (net_of lent) ∷ []) (sides_fault n (net_of lent))
   unfolding sides_fault
-  sides-give w = refuse_gives 9 _ (not (has_sides (net_of lent) n)) (omega arith) (record {
+  sides_give w = refuse_gives 9 _ (not (has_sides (net_of lent) n)) (omega arith) (record {
     holds = λ e high split. true≢false (sym (found_all (net_of lent) n w.few (network_good n lent w) high split) ∙ not-true _ e);
     fails = λ e none. none (is_high (net_of lent) n) (found_sides (net_of lent) n w.few (network_good n lent w) (not-false _ e)).split;
   })
@@ -209,7 +209,7 @@ module _ (n : ℕ) (lent : Lent) (order : List ℕ) where
       (two_sides_tests n lent order) (two_sides_fault n lent order) _ _ refl refl refl refl
       (lent_silent n lent _ (sides_test n (net_of lent) ∷ []) (unsaid, tt) (unsaid, tt))
       (gives_append (lent_tests n lent (size_test order 128 ∷ [])) _ (lent_fault n lent (size_fault order 128)) _
-      (lent_gives n lent _ (size_fault order 128) (size_gives order 128)) (λ z. sides-give (lent_clear n lent (size_fault order 128) z).0))
+      (lent_gives n lent _ (size_fault order 128) (size_gives order 128)) (λ z. sides_give (lent_clear n lent (size_fault order 128) z).0))
 
 -- the floor
 pub flooring_gives : (n : ℕ) (lent : Lent) (list : List ℕ)
@@ -241,9 +241,9 @@ room_gives sheet text = refuse_gives 16 _ (ltb (length text) (length sheet)) (om
 
 -- the writer
 module _ (n : ℕ) (labels : List ℕ) (lent : Lent) (starts text : List ℕ) where
-  write-gives : Gives (write_tests n labels lent starts text) (write_fault n labels lent starts text)
+  write_gives : Gives (write_tests n labels lent starts text) (write_fault n labels lent starts text)
   unfolding write_tests write_fault
-  write-gives =
+  write_gives =
       gives_append (lent_tests n lent (size_test labels 1024 ∷ size_test starts 128 ∷ [])) _ (lent_fault n lent (label_sizes labels starts)) _
       (lent_gives n lent _ (label_sizes labels starts) (label_sizes_give labels starts)) (λ _.
       labels_give n labels _ _ (
@@ -258,4 +258,4 @@ module _ (n : ℕ) (labels : List ℕ) (lent : Lent) (starts text : List ℕ) wh
       silent_gives (λ (r : Left SheetWritten (List ℕ)). r.answer.number) (λ (r : Left SheetWritten (List ℕ)). r.answer.place)
       (write_tests n labels lent starts text) (write_fault n labels lent starts text) _ _ refl refl refl refl
       (lent_silent n lent _ (label_test n labels ∷ label_twice_test n labels ∷ pairs_test n lent.guards ∷ written_start_test n starts ∷ room_test (sheet_text n labels lent starts) text ∷ [])
-      (unsaid, (unsaid, tt)) (unsaid, (unsaid, (unsaid, (unsaid, (unsaid, tt)))))) write-gives
+      (unsaid, (unsaid, tt)) (unsaid, (unsaid, (unsaid, (unsaid, (unsaid, tt)))))) write_gives

@@ -27,7 +27,7 @@ use Rattle.plan_laws.specs.Short.{lower_below, lower_above, short_below, short_a
 use Rattle.plan_laws.specs.Answers.{unless_refused, unless_number, judging_judgeable}
 use Rattle.plan_laws.specs.Clash.{close_parts}
 use Rattle.plan_laws.specs.Judge.{clear_distance, distance_clear, distance_below, distance_above}
-use Rattle.demands.specs.Tests.{told, Squared, allRight, firstBad, squared, gives_one, silent_rest}
+use Rattle.demands.specs.Tests.{told, Squared, all_right, first_bad, squared, gives_one, silent_rest}
 use Rattle.demands.specs.OnRefusing.{unsaid, lent_unsaid, judging_gives, pressing_gives, explaining_gives}
 use Rattle.table_laws.specs.Scans.{and_false}
 
@@ -148,8 +148,8 @@ module _ (n : ℕ) (lent : Lent) (starts : List ℕ) where
   says : Network n lent → Starts n starts → Squared 8 (too_close net (at starts)) (short net (at starts)) n
       → (clash_fault n net starts).number ≡ 8 → Says n lent starts (clash_fault n net starts)
   unfolding clash_fault
-  says w s (allRight h e) z = absurd (omega (arith, ap (λ (f : Fault). f.number) e))
-  says w s (firstBad i j l g b rows row e) z =
+  says w s (all_right h e) z = absurd (omega (arith, ap (λ (f : Fault). f.number) e))
+  says w s (first_bad i j l g b rows row e) z =
       let c = close_parts net (at starts) i j b in
       rw e (record {
         network = w;

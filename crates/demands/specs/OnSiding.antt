@@ -48,32 +48,32 @@ module _ (n : ℕ) (high : ℕ → Bool) (order : List ℕ) (room : n ≤ length
       differ ne g = omega arith
 
   -- its first paths, as many as the low side has, are low, and the rest high
-  isLow : ℕ → ℕ
-  isLow k = cond (high k) 0 1
+  is_low : ℕ → ℕ
+  is_low k = cond (high k) 0 1
 
-  low-along : sum (λ i. isLow (o i)) n ≡ low_side n high
-  unfolding low_side isLow o
-  low-along = sum_order (λ k. cond (high k) 0 1) (at (two_sided n high order)) n (sided_order n high order room)
+  low_along : sum (λ i. is_low (o i)) n ≡ low_side n high
+  unfolding low_side is_low o
+  low_along = sum_order (λ k. cond (high k) 0 1) (at (two_sided n high order)) n (sided_order n high order room)
 
-  low-none : (k : ℕ) → high k ≡ true → isLow k ≡ 0
-  unfolding isLow
-  low-none k e = rw e
+  low_none : (k : ℕ) → high k ≡ true → is_low k ≡ 0
+  unfolding is_low
+  low_none k e = rw e
 
-  low-one : (k : ℕ) → high k ≡ false → isLow k ≡ 1
-  unfolding isLow
-  low-one k e = rw e
+  low_one : (k : ℕ) → high k ≡ false → is_low k ≡ 1
+  unfolding is_low
+  low_one k e = rw e
 
-  at_most_one : (k : ℕ) → isLow k ≤ 1
+  at_most_one : (k : ℕ) → is_low k ≤ 1
   at_most_one k = go (high k) refl
     where
-      go : (b : Bool) → high k ≡ b → isLow k ≤ 1
-      go true e = omega (arith, low-none k e)
-      go false e = omega (arith, low-one k e)
+      go : (b : Bool) → high k ≡ b → is_low k ≤ 1
+      go true e = omega (arith, low_none k e)
+      go false e = omega (arith, low_one k e)
 
   -- a high path is followed by high paths alone
-  stays-high : (i j : ℕ) → i ≤ j → j < n → high (o i) ≡ true → high (o j) ≡ true
+  stays_high : (i j : ℕ) → i ≤ j → j < n → high (o i) ≡ true → high (o j) ≡ true
   unfolding o
-  stays-high i j h l e = go (dec_lt i j) (high (o j)) refl
+  stays_high i j h l e = go (dec_lt i j) (high (o j)) refl
     where
       go : Dec (i < j) → (b : Bool) → high (o j) ≡ b → high (o j) ≡ true
       go d true f = f
@@ -87,19 +87,19 @@ module _ (n : ℕ) (high : ℕ → Bool) (order : List ℕ) (room : n ≤ length
       go : (b : Bool) → high (o i) ≡ b → high (o i) ≡ false
       go false e = e
       go true e =
-          absurd (omega (arith, low-along, sum_few (λ i. isLow (o i)) i n (λ j. at_most_one (o j)) (λ j g k. low-none (o j) (stays-high i j g k e))))
+          absurd (omega (arith, low_along, sum_few (λ i. is_low (o i)) i n (λ j. at_most_one (o j)) (λ j g k. low_none (o j) (stays_high i j g k e))))
 
   pub sided_high : (i : ℕ) → low_side n high ≤ i → i < n → high (at (two_sided n high order) i) ≡ true
   unfolding o
   sided_high i h l = go (high (o i)) refl
     where
-      low-before : high (o i) ≡ false → (j : ℕ) → j < suc i → (b : Bool) → high (o j) ≡ b → isLow (o j) ≡ 1
-      low-before e j g false f = low-one (o j) f
-      low-before e j g true f = absurd (true≢false (sym (stays-high j i (omega arith) l f) ∙ e))
+      low_before : high (o i) ≡ false → (j : ℕ) → j < suc i → (b : Bool) → high (o j) ≡ b → is_low (o j) ≡ 1
+      low_before e j g false f = low_one (o j) f
+      low_before e j g true f = absurd (true≢false (sym (stays_high j i (omega arith) l f) ∙ e))
 
       go : (b : Bool) → high (o i) ≡ b → high (o i) ≡ true
       go true e = e
-      go false e = absurd (omega (arith, low-along, sum_many (λ i. isLow (o i)) (suc i) n l (λ j g. low-before e j g (high (o j)) refl)))
+      go false e = absurd (omega (arith, low_along, sum_many (λ i. is_low (o i)) (suc i) n l (λ j g. low_before e j g (high (o j)) refl)))
 
 -- 0 exactly when there are two sides, 9 exactly when there are none, the earlier tests having found no fault
 module _ (n : ℕ) (lent : Lent) (order : List ℕ) where
@@ -138,30 +138,30 @@ module _ (n : ℕ) (lent : Lent) (order : List ℕ) where
     sides : Sides net n (is_high net n)
     sides = found_sides net n sidable.0.network.few (network_good n lent sidable.0.network) sidable.1
 
-    siding-is : siding n lent order ≡ left (record { number = 0; place = 0; low = low_side n (is_high net n) }) (two_sided n (is_high net n) order)
-    siding-is = sidable_siding n lent order sidable.0 sidable.1
+    siding_is : siding n lent order ≡ left (record { number = 0; place = 0; low = low_side n (is_high net n) }) (two_sided n (is_high net n) order)
+    siding_is = sidable_siding n lent order sidable.0 sidable.1
 
     pub siding_order : Once (at (siding n lent order).tables) n
-    siding_order = rw siding-is (order_once (at (two_sided n (is_high net n) order)) n (sided_order n (is_high net n) order room))
+    siding_order = rw siding_is (order_once (at (two_sided n (is_high net n) order)) n (sided_order n (is_high net n) order room))
 
     -- the size of the low side: so many paths of the order are low, and the rest high
     pub siding_low : (i : ℕ) → i < n → i < (siding n lent order).answer.low → is_high net n (at (siding n lent order).tables i) ≡ false
-    siding_low i l = rw siding-is (λ h. sided_low n (is_high net n) order room i h l)
+    siding_low i l = rw siding_is (λ h. sided_low n (is_high net n) order room i h l)
 
     pub siding_high : (i : ℕ) → i < n → (siding n lent order).answer.low ≤ i → is_high net n (at (siding n lent order).tables i) ≡ true
-    siding_high i l = rw siding-is (λ h. sided_high n (is_high net n) order room i h l)
+    siding_high i l = rw siding_is (λ h. sided_high n (is_high net n) order room i h l)
 
     -- each side by number
     pub siding_numbers : (i j : ℕ) → i < j → j < n
         → is_high net n (at (siding n lent order).tables i) ≡ is_high net n (at (siding n lent order).tables j)
         → at (siding n lent order).tables i < at (siding n lent order).tables j
-    siding_numbers i j h l = rw siding-is (sided_numbers n (is_high net n) order room i j h l)
+    siding_numbers i j h l = rw siding_is (sided_numbers n (is_high net n) order room i j h l)
 
     -- packed, its highest slot is the figure of RULES 7, and no valid plan has a lower one
     pub siding_packs : (starts : List ℕ) → length starts ≡ 128 → (packing n lent (siding n lent order).tables starts).answer.highest ≡ two_sided_highest net n
     unfolding done_packed
     siding_packs starts size =
-        rw (siding-is, packable_packing n lent (two_sided n (is_high net n) order) starts packable)
+        rw (siding_is, packable_packing n lent (two_sided n (is_high net n) order) starts packable)
         (two_sided_lem net n (network_good n lent sidable.0.network) (λ k l. refl) (is_high net n) sides.split order starts room (omega (arith, sidable.0.network.few)))
       where
         packable : Packable n lent (two_sided n (is_high net n) order) starts

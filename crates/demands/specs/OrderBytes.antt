@@ -76,10 +76,10 @@ order_alike l l' d o f =
 
 -- a line of a path whose width is within its limits
 module _ (anchor : ℤ) (anchored : Anchor anchor) (labels widths : List ℕ) (k : ℕ) (thin : 1 ≤ at widths k) (wide : at widths k ≤ 64) where
-  means-alike : (starts : List ℕ) (d : ℕ) (p p' : Parsed (List ℕ × (ℤ × ℕ))) → Alike (After d) p p' → AlikeLine d (order_means anchor labels widths k starts p) (order_means anchor labels widths k starts p')
+  means_alike : (starts : List ℕ) (d : ℕ) (p p' : Parsed (List ℕ × (ℤ × ℕ))) → Alike (After d) p p' → AlikeLine d (order_means anchor labels widths k starts p) (order_means anchor labels widths k starts p')
   unfolding order_means
-  means-alike starts d p p' neither = wrongs 11
-  means-alike starts d p p' (both (w, (n, m)) r r' f) =
+  means_alike starts d p p' neither = wrongs 11
+  means_alike starts d p p' (both (w, (n, m)) r r' f) =
       either (AlikeLine d) (is_row labels w k) (second r) (second r') (wrong 13) (wrong 13)
       (λ _.
       either (AlikeLine d) (eqb m (at widths k)) (third r) (third r') (wrong 3) (wrong 3)
@@ -101,9 +101,9 @@ module _ (anchor : ℤ) (anchored : Anchor anchor) (labels widths : List ℕ) (k
       on : 0 < b → OnGrid n
       on h = let s = number_back anchor (at widths k) n (λ z. omega arith) in rw s.2 at (number_range anchor b (at widths k) anchored s.0 s.1 thin wide)
 
-  step-alike : (starts l l' : List ℕ) (d : ℕ) → 4 ≤ d → Front (18 + d) l l' → AlikeLine d (order_step anchor labels widths k starts l) (order_step anchor labels widths k starts l')
+  step_alike : (starts l l' : List ℕ) (d : ℕ) → 4 ≤ d → Front (18 + d) l l' → AlikeLine d (order_step anchor labels widths k starts l) (order_step anchor labels widths k starts l')
   unfolding order_step
-  step-alike starts l l' d o f = means-alike starts d (order_line l) (order_line l') (order_alike l l' d o f)
+  step_alike starts l l' d o f = means_alike starts d (order_line l) (order_line l') (order_alike l l' d o f)
 
 outcome_same : (starts : List ℕ) (s s' : Section (List ℕ)) → AlikeSection 0 s s' → order_outcome starts s ≡ order_outcome starts s'
 unfolding order_outcome
@@ -117,7 +117,7 @@ module _ (anchor : ℤ) (text : List ℕ) (n : ℕ) (labels : List ℕ) (lent : 
   unfolding order_from
   read_alike q h s =
       last_alike_part order_word (order_step anchor labels lent.widths) 18 4 n
-      (λ k l t u u' d o f. let w = s.network.width k l in step-alike anchor s.anchored labels lent.widths k w.0 w.1 t u u' d o f)
+      (λ k l t u u' d o f. let w = s.network.width k l in step_alike anchor s.anchored labels lent.widths k w.0 w.1 t u u' d o f)
       1 starts text (take q text) s.network.some (omega arith) (omega arith) s.network.few
       (record { kept = q; enough = omega (arith, s.network.few); same = refl })
 

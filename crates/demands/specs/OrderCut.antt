@@ -26,7 +26,7 @@ use Rattle.demands.specs.OnLines.{FirstRight, start, more}
 use Rattle.demands.specs.Orderable.{OrderTables}
 use Rattle.demands.specs.LongestOrder.{longest_orderable, longest_line}
 use Rattle.demands.specs.OrderForms.{ordered_line, order_trip, signed_trip}
-use Rattle.demands.specs.OnOrderLines.{lineWrong}
+use Rattle.demands.specs.OnOrderLines.{line_wrong}
 use Rattle.demands.specs.OrderTrip.{laid, line_back}
 use Rattle.demands.specs.OrderBack.{join_snoc}
 use Rattle.demands.specs.OnOrdering.{ordering_halt}
@@ -70,7 +70,7 @@ unfolding text lines127
 halts_last last x e =
     ap (λ (r : Left OrderRead (List ℕ)). r.answer.number)
     (ordering_halt (pos 1024) (text last) 128 longest_labels longest_network under tables x (2 + 127)
-    (lineWrong (lines127 ++ last) (record { number = omega arith; text = refl }) 127 (laid 127 longest_starts under) last x (omega arith)
+    (line_wrong (lines127 ++ last) (record { number = omega arith; text = refl }) 127 (laid 127 longest_starts under) last x (omega arith)
     (first_back (order_step (pos 1024) longest_labels (cleared 128 64)) 128 (λ k. laid k longest_starts under) (order_line_text (pos 1024) longest_labels (cleared 128 64) longest_starts)
     (line_back (pos 1024) 128 longest_labels longest_network longest_starts longest_orderable under tables.starts_size) 127 (omega arith) last) e))
 

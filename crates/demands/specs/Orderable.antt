@@ -58,9 +58,9 @@ module _ (anchor : ℤ) (n : ℕ) (labels : List ℕ) (lent : Lent) (starts : Li
     abbrev sheet : List ℕ
     sheet = order_text anchor n labels lent.widths starts
 
-    order-clear : (order_write_fault anchor n labels lent starts text).number ≡ 0 → Orderable anchor n labels lent starts × (length sheet ≤ length text)
+    order_clear : (order_write_fault anchor n labels lent starts text).number ≡ 0 → Orderable anchor n labels lent starts × (length sheet ≤ length text)
     unfolding order_write_fault
-    order-clear z =
+    order_clear z =
         let a = or_clear (order_read_fault anchor n labels lent starts) _ z in
         let l = or_clear (scan 11 (bad_label labels) n) _ a.1 in
         let t = or_clear (scan 12 (label_twice labels) n) _ l.1 in
@@ -75,9 +75,9 @@ module _ (anchor : ℤ) (n : ℕ) (labels : List ℕ) (lent : Lent) (starts : Li
           ltb-false (length text) (length sheet) (refuse_clear (ltb (length text) (length sheet)) 16 0 (omega arith) s.1),
         )
 
-    clear-order : Orderable anchor n labels lent starts → length sheet ≤ length text → (order_write_fault anchor n labels lent starts text).number ≡ 0
+    clear_order : Orderable anchor n labels lent starts → length sheet ≤ length text → (order_write_fault anchor n labels lent starts text).number ≡ 0
     unfolding order_write_fault
-    clear-order w room =
+    clear_order w room =
         or_none _ _ (clear_tables w.tables)
         (or_none _ _ (clear_of (scan_none 11 (bad_label labels) n w.formed))
         (or_none _ _ (clear_of (scan_none 12 (label_twice labels) n w.once))
@@ -88,13 +88,13 @@ module _ (anchor : ℤ) (n : ℕ) (labels : List ℕ) (lent : Lent) (starts : Li
     pub order_exact : ((order_writing anchor n labels lent starts text).answer.number ≡ 0) ↔ (Orderable anchor n labels lent starts × (length sheet ≤ length text))
     unfolding order_writing
     order_exact = (
-      λ z. order-clear (unless_clear (λ (r : Left SheetWritten (List ℕ)). r.answer.number) (order_write_fault anchor n labels lent starts text) _ _ refl z),
-      λ h. ap (λ (r : Left SheetWritten (List ℕ)). r.answer.number) (unless_done (order_write_fault anchor n labels lent starts text) _ _ (clear-order h.0 h.1)),
+      λ z. order_clear (unless_clear (λ (r : Left SheetWritten (List ℕ)). r.answer.number) (order_write_fault anchor n labels lent starts text) _ _ refl z),
+      λ h. ap (λ (r : Left SheetWritten (List ℕ)). r.answer.number) (unless_done (order_write_fault anchor n labels lent starts text) _ _ (clear_order h.0 h.1)),
     )
 
     pub order_done : (order_writing anchor n labels lent starts text).answer.number ≡ 0 → order_writing anchor n labels lent starts text ≡ done_written sheet text
     unfolding order_writing
-    order_done z = let h = order_exact.0 z in unless_done (order_write_fault anchor n labels lent starts text) _ _ (clear-order h.0 h.1)
+    order_done z = let h = order_exact.0 z in unless_done (order_write_fault anchor n labels lent starts text) _ _ (clear_order h.0 h.1)
 
     pub written_order : (order_writing anchor n labels lent starts text).answer.number ≡ 0 → sheet_of (order_writing anchor n labels lent starts text) ≡ sheet
     written_order z = ap sheet_of (order_done z) ∙ take-append_seam sheet (drop (length sheet) text)

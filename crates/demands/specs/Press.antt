@@ -49,8 +49,8 @@ module _ (net : Net) (n : ℕ) (good : Good net n) where
         go (inr x) = absurd (omega (arith, by_sorted q i j h l, clear_lt net n good q (by q j) (by q i) hj x))
 
     -- of a plan r that keeps the sides of q's order
-    keeps-sides : (q r : ℕ → ℕ) → Keeps net n (by q) r → SameSides net n q r
-    keeps-sides q r k i j h l =
+    keeps_sides : (q r : ℕ → ℕ) → Keeps net n (by q) r → SameSides net n q r
+    keeps_sides q r k i j h l =
         let a = place (by q) n (by_order q) i h in
         let b = place (by q) n (by_order q) j l in
         subst₂ (λ x y. Conflict net x y → q x < q y → r x < r y) a.2 b.2 (go a.0 b.0 a.1 b.1)
@@ -68,36 +68,36 @@ module _ (net : Net) (n : ℕ) (good : Good net n) where
     pub room : n ≤ length (cleared 128 0)
     room = omega (arith, cleared_length 128 0)
 
-    abbrev pub pressOrder : (ℕ → ℕ) → ℕ → ℕ
-    pressOrder q = by (cleared 128 0) room q
+    abbrev pub order_of_press : (ℕ → ℕ) → ℕ → ℕ
+    order_of_press q = by (cleared 128 0) room q
 
-    pub press_order : (q : ℕ → ℕ) → Order (pressOrder q) n n
+    pub press_order : (q : ℕ → ℕ) → Order (order_of_press q) n n
     press_order q = by_order (cleared 128 0) room q
 
     module _ (t : List ℕ) (space : n ≤ length t) (v : Valid net n (at t)) where
       -- a pressed plan is valid
       pub press_valid : Valid net n (at (pressed net n t))
       unfolding pressed
-      press_valid = packed_valid net n (pressOrder (at t)) (press_order (at t)) t space good
+      press_valid = packed_valid net n (order_of_press (at t)) (press_order (at t)) t space good
 
       -- keeps which of each conflicting pair is lower
       pub press_sides : SameSides net n (at t) (at (pressed net n t))
       unfolding pressed
-      press_sides = keeps-sides (cleared 128 0) room (at t) _ (respects_keeps net n (pressOrder (at t)) (press_order (at t)) _ (respected net n (pressOrder (at t)) (press_order (at t)) t space))
+      press_sides = keeps_sides (cleared 128 0) room (at t) _ (respects_keeps net n (order_of_press (at t)) (press_order (at t)) _ (respected net n (order_of_press (at t)) (press_order (at t)) t space))
 
       -- and is nowhere above a valid plan of the same sides
       pub press_least : (r : ℕ → ℕ) → Valid net n r → SameSides net n (at t) r → (k : ℕ) → k < n → at (pressed net n t) k ≤ r k
       unfolding pressed
-      press_least r w s = packed_least net n (pressOrder (at t)) (press_order (at t)) t space r w.lows (by_keeps (cleared 128 0) room v w s)
+      press_least r w s = packed_least net n (order_of_press (at t)) (press_order (at t)) t space r w.lows (by_keeps (cleared 128 0) room v w s)
 
       -- outside the paths nothing changes
       pub press_length : length (pressed net n t) ≡ length t
       unfolding pressed
-      press_length = packed_length (lowest net) (lowest_local net) (pressOrder (at t)) t n
+      press_length = packed_length (lowest net) (lowest_local net) (order_of_press (at t)) t n
 
       pub press_other : (k : ℕ) → n ≤ k → at (pressed net n t) k ≡ at t k
       unfolding pressed
-      press_other k g = packed_other (lowest net) (lowest_local net) (pressOrder (at t)) t n k (λ i l e. omega (arith, (press_order (at t)).inside i l))
+      press_other k g = packed_other (lowest net) (lowest_local net) (order_of_press (at t)) t n k (λ i l e. omega (arith, (press_order (at t)).inside i l))
 
     -- two valid plans of the same sides press to the same starts
     pub press_agree : (t u : List ℕ) → n ≤ length t → n ≤ length u → Valid net n (at t) → Valid net n (at u) → SameSides net n (at t) (at u)

@@ -107,70 +107,70 @@ run_bytes (suc m) j w h l = go (dec_lt j (length w)) (λ a. run_bytes m (suc j) 
         let c = drop-cons w j 0 b in
         let a = subst (All is_label_byte) c h in
         rw (a.0, ih a.1) (sym c)
-    go (no b) ih = rw (get_or-eq_default w 0 {n = j} (omega arith)) (zero-stops ∙ sym (drop_of_length-le w {i = j} (omega arith)))
+    go (no b) ih = rw (get_or-eq_default w 0 {n = j} (omega arith)) (zero_stops ∙ sym (drop_of_length-le w {i = j} (omega arith)))
       where
-        zero-stops : cond (is_label_byte 0) (0 ∷ run is_label_byte (bytes_from m (suc j) w)) [] ≡ []
-        zero-stops = unfold is_label_byte is_digit in refl
+        zero_stops : cond (is_label_byte 0) (0 ∷ run is_label_byte (bytes_from m (suc j) w)) [] ≡ []
+        zero_stops = unfold is_label_byte is_digit in refl
 
 module _ (labels w : List ℕ) (k : ℕ) (long : length labels ≡ 1024) (l : k < 128) where
-  abbrev after-put : List ℕ
-  after-put = put_row labels k w
+  abbrev after_put : List ℕ
+  after_put = put_row labels k w
 
-  size : length after-put ≡ 1024
+  size : length after_put ≡ 1024
   size = put_length labels w k ∙ long
 
-  row-length : (t : List ℕ) (i : ℕ) → length t ≡ 1024 → i < 128 → length (take 8 (drop (8 * i) t)) ≡ 8
-  row-length t i e h = omega (arith, length-take 8 (drop (8 * i) t), length-drop (8 * i) t)
+  row_length : (t : List ℕ) (i : ℕ) → length t ≡ 1024 → i < 128 → length (take 8 (drop (8 * i) t)) ≡ 8
+  row_length t i e h = omega (arith, length-take 8 (drop (8 * i) t), length-drop (8 * i) t)
 
-  put-label : All is_label_byte w → length w ≤ 8 → label_of after-put k ≡ w
+  put_label : All is_label_byte w → length w ≤ 8 → label_of after_put k ≡ w
   unfolding label_of
-  put-label a h =
+  put_label a h =
       ap (run is_label_byte)
-      (ext_get_or 0 (take 8 (drop (8 * k) after-put)) (bytes_from 8 0 w) (row-length after-put k size l ∙ sym (bytes_length 8 0 w))
+      (ext_get_or 0 (take 8 (drop (8 * k) after_put)) (bytes_from 8 0 w) (row_length after_put k size l ∙ sym (bytes_length 8 0 w))
       (λ j g.
-      let b : j < 8 = omega (arith, row-length after-put k size l) in
-      get_or-take 8 (drop (8 * k) after-put) j 0 b ∙ get_or-drop (8 * k) after-put j 0 ∙ put_in labels w k j (omega arith) b ∙ sym (bytes_at 8 0 w j b ∙ ap (at w) (zero-plus j))))
+      let b : j < 8 = omega (arith, row_length after_put k size l) in
+      get_or-take 8 (drop (8 * k) after_put) j 0 b ∙ get_or-drop (8 * k) after_put j 0 ∙ put_in labels w k j (omega arith) b ∙ sym (bytes_at 8 0 w j b ∙ ap (at w) (zero_plus j))))
       ∙ run_bytes 8 0 w a h
     where
-      zero-plus : (j : ℕ) → 0 + j ≡ j
-      zero-plus j = omega arith
+      zero_plus : (j : ℕ) → 0 + j ≡ j
+      zero_plus j = omega arith
 
-  pub other_label : (i : ℕ) → i < k → label_of after-put i ≡ label_of labels i
+  pub other_label : (i : ℕ) → i < k → label_of after_put i ≡ label_of labels i
   unfolding label_of
   other_label i h =
       ap (run is_label_byte)
-      (ext_get_or 0 (take 8 (drop (8 * i) after-put)) (take 8 (drop (8 * i) labels)) (row-length after-put i size (omega arith) ∙ sym (row-length labels i long (omega arith)))
+      (ext_get_or 0 (take 8 (drop (8 * i) after_put)) (take 8 (drop (8 * i) labels)) (row_length after_put i size (omega arith) ∙ sym (row_length labels i long (omega arith)))
       (λ j g.
-      let b : j < 8 = omega (arith, row-length after-put i size (omega arith)) in
-      get_or-take 8 (drop (8 * i) after-put) j 0 b ∙ get_or-drop (8 * i) after-put j 0 ∙ put_before labels w k (8 * i + j) (omega arith)
+      let b : j < 8 = omega (arith, row_length after_put i size (omega arith)) in
+      get_or-take 8 (drop (8 * i) after_put) j 0 b ∙ get_or-drop (8 * i) after_put j 0 ∙ put_before labels w k (8 * i + j) (omega arith)
       ∙ sym (get_or-take 8 (drop (8 * i) labels) j 0 b ∙ get_or-drop (8 * i) labels j 0)))
 
-  other_row : (u : List ℕ) (i : ℕ) → i < k → is_row after-put u i ≡ is_row labels u i
+  other_row : (u : List ℕ) (i : ℕ) → i < k → is_row after_put u i ≡ is_row labels u i
   unfolding is_row
   other_row u i h =
-      ap not (found_same (λ j. not (eqb (label_byte after-put i j) (at u j))) (λ j. not (eqb (label_byte labels i j) (at u j))) 8
+      ap not (found_same (λ j. not (eqb (label_byte after_put i j) (at u j))) (λ j. not (eqb (label_byte labels i j) (at u j))) 8
       (λ j b. ap (λ (x : ℕ). not (eqb x (at u j))) (put_before labels w k (8 * i + j) (omega arith))))
 
-  pub put_formed : All is_label_byte w → 0 < length w → length w ≤ 8 → bad_label after-put k ≡ false
+  pub put_formed : All is_label_byte w → 0 < length w → length w ≤ 8 → bad_label after_put k ≡ false
   unfolding bad_label
   put_formed a p h =
-      rw (put-label a h, ne_eqb (length w) 0 (λ e. omega arith), row_same after-put w k (λ j b. put_in labels w k j (omega arith) b))
+      rw (put_label a h, ne_eqb (length w) 0 (λ e. omega arith), row_same after_put w k (λ j b. put_in labels w k j (omega arith) b))
 
-  pub put_once : All is_label_byte w → length w ≤ 8 → ltb (find labels k w) k ≡ false → label_twice after-put k ≡ false
+  pub put_once : All is_label_byte w → length w ≤ 8 → ltb (find labels k w) k ≡ false → label_twice after_put k ≡ false
   unfolding label_twice find found
   put_once a h f =
-      rw (put-label a h) (sym (found-eq w) ∙ f)
+      rw (put_label a h) (sym (found_eq w) ∙ f)
     where
-      found-eq : (u : List ℕ) → ltb (first (is_row labels u) k) k ≡ ltb (first (is_row after-put u) k) k
-      found-eq u = unfold found in (sym (found_same (is_row after-put u) (is_row labels u) k (λ i g. other_row u i g)))
+      found_eq : (u : List ℕ) → ltb (first (is_row labels u) k) k ≡ ltb (first (is_row after_put u) k) k
+      found_eq u = unfold found in (sym (found_same (is_row after_put u) (is_row labels u) k (λ i g. other_row u i g)))
 
-  pub other_formed : (i : ℕ) → i < k → bad_label after-put i ≡ bad_label labels i
+  pub other_formed : (i : ℕ) → i < k → bad_label after_put i ≡ bad_label labels i
   unfolding bad_label
   other_formed i h = rw (other_label i h, other_row (label_of labels i) i h)
 
-  pub other_once : (i : ℕ) → i < k → label_twice after-put i ≡ label_twice labels i
+  pub other_once : (i : ℕ) → i < k → label_twice after_put i ≡ label_twice labels i
   unfolding label_twice
-  other_once i h = rw (other_label i h) (found_same (is_row after-put (label_of labels i)) (is_row labels (label_of labels i)) i (λ j g. other_row (label_of labels i) j (omega arith)))
+  other_once i h = rw (other_label i h) (found_same (is_row after_put (label_of labels i)) (is_row labels (label_of labels i)) i (λ j g. other_row (label_of labels i) j (omega arith)))
 
 -- what the path lines leave
 pub record PathsRead (k : ℕ) (t : List ℕ × List ℕ) : Type 0 where
@@ -212,12 +212,12 @@ paths_keep k t l t' l' b p = go (path_line l) refl
         by true g c h e = let z : ◌≡◌ {A = ℕ} 0 1 = cc in absurd (omega arith)
         by false g false h e = let z : ◌≡◌ {A = ℕ} 0 1 = cc in absurd (omega arith)
         by false g true h e =
-            let q : (put_row t.0 k w, set t.1 k v) ≡ t' = line-table e in
+            let q : (put_row t.0 k w, set t.1 k v) ≡ t' = line_table e in
             let x = and_both (leb 1 v) (leb v 64) h in
             subst (PathsRead (suc k)) q (put w v (path_label l w v r f) g (leb-true 1 v x.0, leb-true v 64 x.1))
           where
-            line-table : right (put_row t.0 k w, set t.1 k v) r ≡ right t' l' → (put_row t.0 k w, set t.1 k v) ≡ t'
-            line-table e = cc
+            line_table : right (put_row t.0 k w, set t.1 k v) r ≡ right t' l' → (put_row t.0 k w, set t.1 k v) ≡ t'
+            line_table e = cc
 
 -- The guards: each line sets both cells of one pair
 sum_one : (f g : ℕ → ℕ) (p n : ℕ) → ((k : ℕ) → k < n → k ≢ p → g k ≡ f k) → g p ≤ f p + 1 → sum g n ≤ sum f n + 1
@@ -242,8 +242,8 @@ pub record GuardsRead (n k : ℕ) (t : List ℕ) : Type 0 where
   pub many : pairs n t ≤ k
 
 module _ (n : ℕ) (few : n ≤ 128) where
-  guards-first : GuardsRead n 0 (cleared 16384 255)
-  guards-first = record {
+  guards_first : GuardsRead n 0 (cleared 16384 255)
+  guards_first = record {
     long = cleared_length 16384 255;
     near = λ a b x y. inr (blank a b x y);
     mirrored = λ a b x y. blank a b x y ∙ sym (blank b a y x);
@@ -254,30 +254,30 @@ module _ (n : ℕ) (few : n ≤ 128) where
       blank : (a b : ℕ) → a < n → b < n → at (cleared 16384 255) (cell a b) ≡ 255
       blank a b x y = cleared_at 16384 255 (cell a b) (omega arith)
 
-      not-pair : (a b : ℕ) → a < n → b < n → is_pair (cleared 16384 255) a b ≡ false
-      not-pair a b x y = unfold is_pair in (rw (blank a b x y) (and_false (ltb a b)))
+      not_pair : (a b : ℕ) → a < n → b < n → is_pair (cleared 16384 255) a b ≡ false
+      not_pair a b x y = unfold is_pair in (rw (blank a b x y) (and_false (ltb a b)))
 
       no_pairs : pairs n (cleared 16384 255) ≡ 0
       no_pairs = unfold pairs in
           (sum_same (λ i. sum (λ j. cond (is_pair (cleared 16384 255) i j) 1 0) n) (λ i. 0) n
-          (λ i x. sum_same (λ j. cond (is_pair (cleared 16384 255) i j) 1 0) (λ j. 0) n (λ j y. rw (not-pair i j x y)) ∙ zeros n)
+          (λ i x. sum_same (λ j. cond (is_pair (cleared 16384 255) i j) 1 0) (λ j. 0) n (λ j y. rw (not_pair i j x y)) ∙ zeros n)
           ∙ zeros n)
 
   module _ (k i j g : ℕ) (t : List ℕ) (r : GuardsRead n k t) (hi : i < n) (hj : j < n) (ne : i ≢ j) (small : g ≤ 32) where
     abbrev t' : List ℕ
     t' = set (set t (cell i j) g) (cell j i) g
 
-    long-once : length (set t (cell i j) g) ≡ 16384
-    long-once = length-set t (cell i j) g ∙ r.long
+    long_once : length (set t (cell i j) g) ≡ 16384
+    long_once = length-set t (cell i j) g ∙ r.long
 
-    at-ij : at t' (cell i j) ≡ g
-    at-ij = at_other (set t (cell i j) g) (cell j i) g (cell i j) (λ q. omega arith) ∙ at_same t (cell i j) g (omega (arith, r.long))
+    at_ij : at t' (cell i j) ≡ g
+    at_ij = at_other (set t (cell i j) g) (cell j i) g (cell i j) (λ q. omega arith) ∙ at_same t (cell i j) g (omega (arith, r.long))
 
-    at-ji : at t' (cell j i) ≡ g
-    at-ji = at_same (set t (cell i j) g) (cell j i) g (omega (arith, long-once))
+    at_ji : at t' (cell j i) ≡ g
+    at_ji = at_same (set t (cell i j) g) (cell j i) g (omega (arith, long_once))
 
-    at-else : (a b : ℕ) → cell a b ≢ cell i j → cell a b ≢ cell j i → at t' (cell a b) ≡ at t (cell a b)
-    at-else a b x y = at_other (set t (cell i j) g) (cell j i) g (cell a b) y ∙ at_other t (cell i j) g (cell a b) x
+    at_else : (a b : ℕ) → cell a b ≢ cell i j → cell a b ≢ cell j i → at t' (cell a b) ≡ at t (cell a b)
+    at_else a b x y = at_other (set t (cell i j) g) (cell j i) g (cell a b) y ∙ at_other t (cell i j) g (cell a b) x
 
     -- a cell is that of the pair, its mirror, or another
     Which : ℕ → ℕ → Type 0
@@ -294,36 +294,36 @@ module _ (n : ℕ) (few : n ≤ 128) where
         go (no p) q (yes c) (no d) = inr (inr (λ e. p (omega arith), λ e. d (omega arith)))
         go (no p) q (no c) d = inr (inr (λ e. p (omega arith), λ e. c (omega arith)))
 
-    near-more : (a b : ℕ) → a < n → b < n → Which a b → (at t' (cell a b) ≤ 32) ⊎ (at t' (cell a b) ≡ 255)
+    near_more : (a b : ℕ) → a < n → b < n → Which a b → (at t' (cell a b) ≤ 32) ⊎ (at t' (cell a b) ≡ 255)
     unfolding Which
-    near-more a b x y (inl (p, q)) = inl (rw (p, q, at-ij) small)
-    near-more a b x y (inr (inl (p, q))) = inl (rw (p, q, at-ji) small)
-    near-more a b x y (inr (inr (p, q))) = rw (at-else a b p q) (r.near a b x y)
+    near_more a b x y (inl (p, q)) = inl (rw (p, q, at_ij) small)
+    near_more a b x y (inr (inl (p, q))) = inl (rw (p, q, at_ji) small)
+    near_more a b x y (inr (inr (p, q))) = rw (at_else a b p q) (r.near a b x y)
 
-    mirror-more : (a b : ℕ) → a < n → b < n → Which a b → at t' (cell a b) ≡ at t' (cell b a)
+    mirror_more : (a b : ℕ) → a < n → b < n → Which a b → at t' (cell a b) ≡ at t' (cell b a)
     unfolding Which
-    mirror-more a b x y (inl (p, q)) = rw (p, q) (at-ij ∙ sym at-ji)
-    mirror-more a b x y (inr (inl (p, q))) = rw (p, q) (at-ji ∙ sym at-ij)
-    mirror-more a b x y (inr (inr (p, q))) = at-else a b p q ∙ r.mirrored a b x y ∙ sym (at-else b a (λ e. q (omega arith)) (λ e. p (omega arith)))
+    mirror_more a b x y (inl (p, q)) = rw (p, q) (at_ij ∙ sym at_ji)
+    mirror_more a b x y (inr (inl (p, q))) = rw (p, q) (at_ji ∙ sym at_ij)
+    mirror_more a b x y (inr (inr (p, q))) = at_else a b p q ∙ r.mirrored a b x y ∙ sym (at_else b a (λ e. q (omega arith)) (λ e. p (omega arith)))
 
-    alone-more : (a : ℕ) → a < n → at t' (cell a a) ≡ 255
-    alone-more a x = at-else a a (λ e. ne (omega arith)) (λ e. ne (omega arith)) ∙ r.alone a x
+    alone_more : (a : ℕ) → a < n → at t' (cell a a) ≡ 255
+    alone_more a x = at_else a a (λ e. ne (omega arith)) (λ e. ne (omega arith)) ∙ r.alone a x
 
     -- one pair more, at most
-    same-pair : (p q : ℕ) → (((p ≡ i) × (q ≡ j)) ⊎ ((p ≡ j) × (q ≡ i))) → p < q → (a b : ℕ) → a < n → b < n → (a ≡ p → b ≡ q → ⊥) → is_pair t' a b ≡ is_pair t a b
+    same_pair : (p q : ℕ) → (((p ≡ i) × (q ≡ j)) ⊎ ((p ≡ j) × (q ≡ i))) → p < q → (a b : ℕ) → a < n → b < n → (a ≡ p → b ≡ q → ⊥) → is_pair t' a b ≡ is_pair t a b
     unfolding Which is_pair
-    same-pair p q of p<q a b x y other = go (dec_lt a b) (which a b x y)
+    same_pair p q of p<q a b x y other = go (dec_lt a b) (which a b x y)
       where
-        not-it : (((p ≡ i) × (q ≡ j)) ⊎ ((p ≡ j) × (q ≡ i))) → a < b → ((a ≡ i) × (b ≡ j)) ⊎ ((a ≡ j) × (b ≡ i)) → ⊥
-        not-it (inl (e, f)) l (inl (c, d)) = other (omega arith) (omega arith)
-        not-it (inl (e, f)) l (inr (c, d)) = omega arith
-        not-it (inr (e, f)) l (inl (c, d)) = omega arith
-        not-it (inr (e, f)) l (inr (c, d)) = other (omega arith) (omega arith)
+        not_it : (((p ≡ i) × (q ≡ j)) ⊎ ((p ≡ j) × (q ≡ i))) → a < b → ((a ≡ i) × (b ≡ j)) ⊎ ((a ≡ j) × (b ≡ i)) → ⊥
+        not_it (inl (e, f)) l (inl (c, d)) = other (omega arith) (omega arith)
+        not_it (inl (e, f)) l (inr (c, d)) = omega arith
+        not_it (inr (e, f)) l (inl (c, d)) = omega arith
+        not_it (inr (e, f)) l (inr (c, d)) = other (omega arith) (omega arith)
 
         go : Dec (a < b) → ((a ≡ i) × (b ≡ j)) ⊎ (((a ≡ j) × (b ≡ i)) ⊎ ((cell a b ≢ cell i j) × (cell a b ≢ cell j i))) → (ltb a b && ltb (at t' (cell a b)) 255) ≡ (ltb a b && ltb (at t (cell a b)) 255)
-        go (yes l) (inl c) = absurd (not-it of l (inl c))
-        go (yes l) (inr (inl c)) = absurd (not-it of l (inr c))
-        go (yes l) (inr (inr (c, d))) = ap (λ (x : ℕ). ltb a b && ltb x 255) (at-else a b c d)
+        go (yes l) (inl c) = absurd (not_it of l (inl c))
+        go (yes l) (inr (inl c)) = absurd (not_it of l (inr c))
+        go (yes l) (inr (inr (c, d))) = ap (λ (x : ℕ). ltb a b && ltb x 255) (at_else a b c d)
         go (no l) w = rw (le-ltb a b (omega arith))
 
     at_most_one : (b c : Bool) → cond {A = ℕ} b 1 0 ≤ cond c 1 0 + 1
@@ -331,33 +331,33 @@ module _ (n : ℕ) (few : n ≤ 128) where
     at_most_one true false = omega arith
     at_most_one false c = omega arith
 
-    pairs-one : (p q : ℕ) → p < n → (((p ≡ i) × (q ≡ j)) ⊎ ((p ≡ j) × (q ≡ i))) → p < q → pairs n t' ≤ pairs n t + 1
+    pairs_one : (p q : ℕ) → p < n → (((p ≡ i) × (q ≡ j)) ⊎ ((p ≡ j) × (q ≡ i))) → p < q → pairs n t' ≤ pairs n t + 1
     unfolding pairs
-    pairs-one p q hp of p<q =
+    pairs_one p q hp of p<q =
         sum_one (λ a. sum (λ b. cond (is_pair t a b) 1 0) n) (λ a. sum (λ b. cond (is_pair t' a b) 1 0) n) p n
-        (λ a x other. sum_same (λ b. cond (is_pair t' a b) 1 0) (λ b. cond (is_pair t a b) 1 0) n (λ b y. rw (same-pair p q of p<q a b x y (λ e f. other e))))
+        (λ a x other. sum_same (λ b. cond (is_pair t' a b) 1 0) (λ b. cond (is_pair t a b) 1 0) n (λ b y. rw (same_pair p q of p<q a b x y (λ e f. other e))))
         (sum_one (λ b. cond (is_pair t p b) 1 0) (λ b. cond (is_pair t' p b) 1 0) q n
-        (λ b y other. rw (same-pair p q of p<q p b hp y (λ e f. other f))) (at_most_one (is_pair t' p q) (is_pair t p q)))
+        (λ b y other. rw (same_pair p q of p<q p b hp y (λ e f. other f))) (at_most_one (is_pair t' p q) (is_pair t p q)))
 
     many_more : pairs n t' ≤ suc k
     many_more = go (dec_lt i j)
       where
         go : Dec (i < j) → pairs n t' ≤ suc k
-        go (yes l) = omega (arith, r.many, pairs-one i j hi (inl (refl, refl)) l)
-        go (no l) = omega (arith, r.many, pairs-one j i hj (inr (refl, refl)) (omega arith))
+        go (yes l) = omega (arith, r.many, pairs_one i j hi (inl (refl, refl)) l)
+        go (no l) = omega (arith, r.many, pairs_one j i hj (inr (refl, refl)) (omega arith))
 
     pub guards_more : GuardsRead n (suc k) t'
     guards_more = record {
-      long = length-set (set t (cell i j) g) (cell j i) g ∙ long-once;
-      near = λ a b x y. near-more a b x y (which a b x y);
-      mirrored = λ a b x y. mirror-more a b x y (which a b x y);
-      alone = alone-more;
+      long = length-set (set t (cell i j) g) (cell j i) g ∙ long_once;
+      near = λ a b x y. near_more a b x y (which a b x y);
+      mirrored = λ a b x y. mirror_more a b x y (which a b x y);
+      alone = alone_more;
       many = many_more;
     }
 
-  guards-keep : (labels : List ℕ) (k : ℕ) (t l t' l' : List ℕ) → GuardsRead n k t → guard_step n labels k t l ≡ right t' l' → GuardsRead n (suc k) t'
+  guards_keep : (labels : List ℕ) (k : ℕ) (t l t' l' : List ℕ) → GuardsRead n k t → guard_step n labels k t l ≡ right t' l' → GuardsRead n (suc k) t'
   unfolding guard_step
-  guards-keep labels k t l t' l' r = go (guard_line l)
+  guards_keep labels k t l t' l' r = go (guard_line l)
     where
       cells : (i j g : ℕ) (rest : List ℕ) → guard_cell n i j g t rest ≡ right t' l' → GuardsRead n (suc k) t'
       cells i j g rest e = by (ltb i n && ltb j n && not (eqb i j)) refl (eqb (at t (cell i j)) 255) (leb g 32) refl (unfold guard_cell in e)
@@ -447,7 +447,7 @@ sheet_read_lem l t l' e =
     let d = counted_done (count_line guards_word b.1) (λ m. leb m 2000) (n + 2) _ c.0 c.1 c.2 in
     let m = d.0 in
     let f = after_done (lines (guard_step n b.0.0) (n + 3) m 0 (cleared 16384 255) d.1) _ c.0 c.1 d.4 in
-    let guards : GuardsRead n (0 + m) f.0 = lines_keep (guard_step n b.0.0) (n + 3) m (GuardsRead n) (λ k t l t' l' h p f. guards-keep n few b.0.0 k t l t' l' p f) m 0 (cleared 16384 255) d.1 f.0 f.1 (omega arith) (guards-first n few) f.2 in
+    let guards : GuardsRead n (0 + m) f.0 = lines_keep (guard_step n b.0.0) (n + 3) m (GuardsRead n) (λ k t l t' l' h p f. guards_keep n few b.0.0 k t l t' l' p f) m 0 (cleared 16384 255) d.1 f.0 f.1 (omega arith) (guards_first n few) f.2 in
     let s = after_done (starts_part n (n + m + 3) b.0.0 (cleared 128 0) f.1) _ c.0 c.1 f.3 in
     let plan = starts_part_lem n (n + m + 3) b.0.0 f.1 s.0 s.1 few s.2 in
     let tables : ◌≡◌ {A = ℕ × List ℕ × Lent × List ℕ} (n, b.0.0, lend b.0.1 f.0, s.0) t = whole n b.0.0 b.0.1 f.0 s.0 c.0 s.1 c.1 s.3 c.3 in
@@ -601,23 +601,23 @@ read_written text labels lent starts sizes z room long =
 -- a sheet that is read and written settles: read and written once more, it is the same bytes
 module _ (text labels : List ℕ) (lent : Lent) (starts : List ℕ) (sizes : (sheet_sizes labels lent starts).number ≡ 0) (z : (reading text labels lent starts).answer.number ≡ 0)
     (room again : List ℕ) (long : 45489 ≤ length room) (longer : 45489 ≤ length again) where
-  abbrev readOnce : Left SheetRead (List ℕ × Lent × List ℕ)
-  readOnce = reading text labels lent starts
+  abbrev read_once : Left SheetRead (List ℕ × Lent × List ℕ)
+  read_once = reading text labels lent starts
 
-  abbrev writtenOnce : Left SheetWritten (List ℕ)
-  writtenOnce = writing readOnce.answer.n readOnce.tables.0 readOnce.tables.1 readOnce.tables.2 room
+  abbrev written_once : Left SheetWritten (List ℕ)
+  written_once = writing read_once.answer.n read_once.tables.0 read_once.tables.1 read_once.tables.2 room
 
-  abbrev readTwice : Left SheetRead (List ℕ × Lent × List ℕ)
-  readTwice = reading (sheet_of writtenOnce) labels lent starts
+  abbrev read_twice : Left SheetRead (List ℕ × Lent × List ℕ)
+  read_twice = reading (sheet_of written_once) labels lent starts
 
-  abbrev writtenTwice : Left SheetWritten (List ℕ)
-  writtenTwice = writing readTwice.answer.n readTwice.tables.0 readTwice.tables.1 readTwice.tables.2 again
+  abbrev written_twice : Left SheetWritten (List ℕ)
+  written_twice = writing read_twice.answer.n read_twice.tables.0 read_twice.tables.1 read_twice.tables.2 again
 
-  pub settles : (writtenTwice.answer.number ≡ 0) × (sheet_of writtenTwice ≡ sheet_of writtenOnce)
+  pub settles : (written_twice.answer.number ≡ 0) × (sheet_of written_twice ≡ sheet_of written_once)
   settles =
       let first = read_written text labels lent starts sizes z room long in
-      let n = readOnce.answer.n in
-      let t = readOnce.tables in
+      let n = read_once.answer.n in
+      let t = read_once.tables in
       let most = sheet_most n t.0 t.1 t.2 (writing_writable n t.0 t.1 t.2 room first).0 in
       rw (written_read n t.0 t.1 t.2 room first labels lent starts sizes)
       (written_again n t.0 t.1 t.2 room again first (omega arith))

@@ -17,8 +17,8 @@ use Rattle.demands.specs.Kept.{front, front_in, front_past, kept_cells, kept_lab
 use Rattle.demands.specs.GuardTrip.{square_of, square_in, square_row, square_column, kept_guards}
 use Rattle.demands.specs.ReadBack.{sheet_read_lem}
 use Rattle.demands.specs.Forms.{PathForm, GuardForm}
-use Rattle.demands.specs.OnLines.{HasLabel, Unknown, Known, PathSays, form, label_twice, width, fine, GuardSays, unknown, itself, pairTwice, over, StartSays, other, path_says, guard_says, start_says, FirstRight, start, more}
-use Rattle.demands.specs.OnReading.{SheetRight, withoutPlan, withPlan, right_only, reading_right}
+use Rattle.demands.specs.OnLines.{HasLabel, Unknown, Known, PathSays, form, label_twice, width, fine, GuardSays, unknown, itself, pair_twice, over, StartSays, other, path_says, guard_says, start_says, FirstRight, start, more}
+use Rattle.demands.specs.OnReading.{SheetRight, without_plan, with_plan, right_only, reading_right}
 
 -- a line that is right: its fields, and what it puts down
 pub record PathPut (k : ℕ) (t : List ℕ × List ℕ) (l : List ℕ) (t' : List ℕ × List ℕ) (l' : List ℕ) : Type 0 where
@@ -57,7 +57,7 @@ pub guard_put : (n : ℕ) (labels t l : List ℕ) (y : Line (List ℕ)) (t' l' :
 guard_put n labels t l y t' l' (form h) e = let z : ◌≡◌ {A = ℕ} 0 1 = cc in absurd (omega arith)
 guard_put n labels t l y t' l' (unknown a b g r f h) e = let z : ◌≡◌ {A = ℕ} 0 1 = cc in absurd (omega arith)
 guard_put n labels t l y t' l' (itself a b g r f i s u) e = let z : ◌≡◌ {A = ℕ} 0 1 = cc in absurd (omega arith)
-guard_put n labels t l y t' l' (pairTwice a b g r f i j s u d c) e = let z : ◌≡◌ {A = ℕ} 0 1 = cc in absurd (omega arith)
+guard_put n labels t l y t' l' (pair_twice a b g r f i j s u d c) e = let z : ◌≡◌ {A = ℕ} 0 1 = cc in absurd (omega arith)
 guard_put n labels t l y t' l' (over a b g r f i j s u d c h) e = let z : ◌≡◌ {A = ℕ} 0 1 = cc in absurd (omega arith)
 guard_put n labels t l y t' l' (fine a b g r f i j s u d c h) e =
     let q : r ≡ l' = cc in
@@ -140,7 +140,7 @@ abbrev Past : ℕ × List ℕ × Lent × List ℕ → Type 0
 Past t = PastCleared t.0 t.1 t.2 t.3
 
 sheet_past : (l : List ℕ) (t : ℕ × List ℕ × Lent × List ℕ) → SheetRight l t → Past t
-sheet_past l t (withoutPlan n labels widths m guards g) =
+sheet_past l t (without_plan n labels widths m guards g) =
     let p = paths_past g.paths.l₁ n (labels, widths) g.l₂ g.paths.each in
     record {
       label_cells = p.labels;
@@ -148,7 +148,7 @@ sheet_past l t (withoutPlan n labels widths m guards g) =
       guard_cells = guards_past n labels g.l₃ m guards [] g.paths.most g.each;
       start_cells = λ k h. cleared_zero 128 k;
     }
-sheet_past l t (withPlan n labels widths m guards starts s) =
+sheet_past l t (with_plan n labels widths m guards starts s) =
     let g = s.guarded in
     let p = paths_past g.paths.l₁ n (labels, widths) g.l₂ g.paths.each in
     record {
@@ -159,14 +159,14 @@ sheet_past l t (withPlan n labels widths m guards starts s) =
     }
 
 module _ (text labels : List ℕ) (lent : Lent) (starts : List ℕ) (zero-answer : (reading text labels lent starts).answer.number ≡ 0) where
-  abbrev leftBehind : Left SheetRead (List ℕ × Lent × List ℕ)
-  leftBehind = reading text labels lent starts
+  abbrev left_behind : Left SheetRead (List ℕ × Lent × List ℕ)
+  left_behind = reading text labels lent starts
 
-  pub reading_past : PastCleared leftBehind.answer.n leftBehind.tables.0 leftBehind.tables.1 leftBehind.tables.2
+  pub reading_past : PastCleared left_behind.answer.n left_behind.tables.0 left_behind.tables.1 left_behind.tables.2
   reading_past = sheet_past text _ (reading_right text labels lent starts zero-answer).1
 
   -- and what the n paths hold is what the writer accepts
-  pub reading_writable : Writable leftBehind.answer.n leftBehind.tables.0 leftBehind.tables.1 leftBehind.tables.2
+  pub reading_writable : Writable left_behind.answer.n left_behind.tables.0 left_behind.tables.1 left_behind.tables.2
   reading_writable = sheet_read_lem text _ [] (right_only text _ (reading_right text labels lent starts zero-answer).1)
 
 -- tables that are cleared past n are all kept
@@ -189,10 +189,10 @@ module _ (n : ℕ) (labels : List ℕ) (lent : Lent) (starts : List ℕ) (p : Pa
   unfolding kept_guards
   same_guards long = tab_is 16384 (square_of n lent.guards) lent.guards long (λ c l. go c l (dec_lt (c / 128) n) (dec_lt (c % 128) n))
     where
-      at-cell : (c : ℕ) → c < 16384 → (n ≤ c / 128) ⊎ (n ≤ c % 128) → at lent.guards c ≡ 255
-      at-cell c l h = let e : c ≡ cell (c / 128) (c % 128) = omega arith in ap (at lent.guards) e ∙ p.guard_cells (c / 128) (c % 128) (omega arith) (omega arith) h
+      at_cell : (c : ℕ) → c < 16384 → (n ≤ c / 128) ⊎ (n ≤ c % 128) → at lent.guards c ≡ 255
+      at_cell c l h = let e : c ≡ cell (c / 128) (c % 128) = omega arith in ap (at lent.guards) e ∙ p.guard_cells (c / 128) (c % 128) (omega arith) (omega arith) h
 
       go : (c : ℕ) → c < 16384 → Dec (c / 128 < n) → Dec (c % 128 < n) → at lent.guards c ≡ square_of n lent.guards c
       go c l (yes a) (yes b) = sym (square_in n lent.guards c a b)
-      go c l (no a) b = at-cell c l (inl (omega arith)) ∙ sym (square_row n lent.guards c (omega arith))
-      go c l (yes a) (no b) = at-cell c l (inr (omega arith)) ∙ sym (square_column n lent.guards c (omega arith))
+      go c l (no a) b = at_cell c l (inl (omega arith)) ∙ sym (square_row n lent.guards c (omega arith))
+      go c l (yes a) (no b) = at_cell c l (inr (omega arith)) ∙ sym (square_column n lent.guards c (omega arith))

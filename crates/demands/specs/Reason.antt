@@ -28,31 +28,31 @@ module _ (net : Net) (n : ℕ) (good : Good net n) (plan : ℕ → ℕ) where
 
   module _ (k : ℕ) (c : List ℕ) (h : Chain net plan n k c) where
     -- the widths and guards add up along it
-    part-sum : (i : ℕ) → i < length c → plan k ≡ plan (at c i) + sum (step c) i
+    part_sum : (i : ℕ) → i < length c → plan k ≡ plan (at c i) + sum (step c) i
     unfolding sum
-    part-sum zero l = omega (arith, ap plan h.from)
-    part-sum (suc i) l = let x = h.links i l in omega (arith, part-sum i (omega arith), x.meets, good.wide (at c (suc i)) x.path)
+    part_sum zero l = omega (arith, ap plan h.from)
+    part_sum (suc i) l = let x = h.links i l in omega (arith, part_sum i (omega arith), x.meets, good.wide (at c (suc i)) x.path)
 
     pub chain_sum : plan k ≡ plan (last c) + along net c
     unfolding along
-    chain_sum = part-sum (length c - 1) (omega (arith, h.some))
+    chain_sum = part_sum (length c - 1) (omega (arith, h.some))
 
     -- another valid plan in which the paths of the chain keep their order
     module _ (inside : k < n) (other : ℕ → ℕ) (v : Valid net n other) (keeps : (i : ℕ) → suc i < length c → other (at c (suc i)) < other (at c i)) where
-      part-holds : (i : ℕ) → i < length c → other (at c i) + sum (step c) i ≤ other k
+      part_holds : (i : ℕ) → i < length c → other (at c i) + sum (step c) i ≤ other k
       unfolding sum
-      part-holds zero l = omega (arith, ap other h.from)
-      part-holds (suc i) l =
+      part_holds zero l = omega (arith, ap other h.from)
+      part_holds (suc i) l =
           let x = h.links i l in
           let a = at c (suc i) in
           let b = at c i in
           let y = lower_clear net n good v a b x.path (chain_inside net plan n k c inside h i (omega arith)) x.conflict (keeps i l) in
-          omega (arith, part-holds i (omega arith), y, good.wide a x.path)
+          omega (arith, part_holds i (omega arith), y, good.wide a x.path)
 
       -- it has at least as many slots between the first and the last path
       pub chain_holds : other (last c) + along net c ≤ other k
       unfolding along
-      chain_holds = part-holds (length c - 1) (omega (arith, h.some))
+      chain_holds = part_holds (length c - 1) (omega (arith, h.some))
 
       -- so where the chain ends on a lowest start, it puts the first path no lower
       pub chain_reason : plan (last c) ≡ net.low (last c) → plan k ≤ other k
@@ -67,24 +67,24 @@ module _ (net : Net) (n : ℕ) (good : Good net n) (plan : ℕ → ℕ) where
   abbrev asks : ℕ → ℕ → ℕ
   asks k j = cond (is_below net plan k j) (past net j k (plan j)) 0
 
-  asks-le : (k j s : ℕ) → (Conflict net j k → plan j < plan k → end net j (plan j) + net.guard j k < s) → asks k j ≤ s
-  asks-le k j s h = go (is_below net plan k j) refl
+  asks_le : (k j s : ℕ) → (Conflict net j k → plan j < plan k → end net j (plan j) + net.guard j k < s) → asks k j ≤ s
+  asks_le k j s h = go (is_below net plan k j) refl
     where
       go : (b : Bool) → is_below net plan k j ≡ b → cond b (past net j k (plan j)) 0 ≤ s
       go true e = let p = below_parts net plan k j e in omega (arith, h p.0 p.1)
       go false e = omega arith
 
-  asks-ge : (k j : ℕ) → Conflict net j k → plan j < plan k → past net j k (plan j) ≤ asks k j
-  asks-ge k j c l = rw (parts_below net plan k j c l) (omega arith)
+  asks_ge : (k j : ℕ) → Conflict net j k → plan j < plan k → past net j k (plan j) ≤ asks k j
+  asks_ge k j c l = rw (parts_below net plan k j c l) (omega arith)
 
   -- the bottom is the lowest slot in which it can stand
   pub bottom_stands : (k s : ℕ) → bottom net plan n k ≤ s → CanStand net plan n k s
   unfolding bottom
-  bottom_stands k s l = (omega arith, λ j g c b. omega (arith, largest_ge (asks k) n j g, asks-ge k j c b))
+  bottom_stands k s l = (omega arith, λ j g c b. omega (arith, largest_ge (asks k) n j g, asks_ge k j c b))
 
   pub stands_bottom : (k s : ℕ) → CanStand net plan n k s → bottom net plan n k ≤ s
   unfolding bottom
-  stands_bottom k s h = omega (arith, h.0, largest_le (asks k) n s (λ j g. asks-le k j s (h.1 j g)))
+  stands_bottom k s h = omega (arith, h.0, largest_le (asks k) n s (λ j g. asks_le k j s (h.1 j g)))
 
   -- what it meets there: its lowest start, or the slot just past a path below it and their guard
   pub bottom_meets : (k : ℕ) → (bottom net plan n k ≡ net.low k) ⊎ ((j : ℕ) × (j < n) × Conflict net j k × (plan j < plan k) × (past net j k (plan j) ≡ bottom net plan n k))
@@ -104,13 +104,13 @@ module _ (net : Net) (n : ℕ) (good : Good net n) (plan : ℕ → ℕ) where
 
   module _ (v : Valid net n plan) (k : ℕ) (l : k < n) where
     -- a path of a valid plan can stand where it stands
-    bottom-under : bottom net plan n k ≤ plan k
-    bottom-under = stands_bottom k (plan k) (v.lows k l, λ j g c b. lower_clear net n good v j k g l c b)
+    bottom_under : bottom net plan n k ≤ plan k
+    bottom_under = stands_bottom k (plan k) (v.lows k l, λ j g c b. lower_clear net n good v j k g l c b)
 
     -- exactly so many slots: it can stand in each slot down to there, and in none below
     pub down_stands : (s : ℕ) → s ≤ plan k → CanStand net plan n k s ↔ (plan k ≤ s + down net plan n k)
     unfolding down
-    down_stands s g = (λ h. omega (arith, stands_bottom k s h), λ h. bottom_stands k s (omega (arith, bottom-under)))
+    down_stands s g = (λ h. omega (arith, stands_bottom k s h), λ h. bottom_stands k s (omega (arith, bottom_under)))
 
     -- and there it meets its lowest start, or a path below it and their guard
     pub down_meets : (s : ℕ) → s + down net plan n k ≡ plan k
@@ -119,7 +119,7 @@ module _ (net : Net) (n : ℕ) (good : Good net n) (plan : ℕ → ℕ) where
     down_meets s e = go (bottom_meets k)
       where
         is : s ≡ bottom net plan n k
-        is = omega (arith, bottom-under)
+        is = omega (arith, bottom_under)
 
         go : (bottom net plan n k ≡ net.low k) ⊎ ((j : ℕ) × (j < n) × Conflict net j k × (plan j < plan k) × (past net j k (plan j) ≡ bottom net plan n k))
             → (s ≡ net.low k) ⊎ ((j : ℕ) × (j < n) × Conflict net j k × (plan j < s) × (past net j k (plan j) ≡ s))
@@ -185,11 +185,11 @@ module _ (net : Net) (n : ℕ) (good : Good net n) (plan : ℕ → ℕ) where
 
 -- A packed plan: each path is on its lowest start, or an earlier one holds it up
 module _ (net : Net) (plan order : ℕ → ℕ) where
-  lowest-meets : (m k : ℕ) → (lowest net plan order m k ≡ net.low k)
+  lowest_meets : (m k : ℕ) → (lowest net plan order m k ≡ net.low k)
       ⊎ ((i : ℕ) × (i < m) × Conflict net (order i) k × (past net (order i) k (plan (order i)) ≡ lowest net plan order m k))
   unfolding lowest reach
-  lowest-meets zero k = inl refl
-  lowest-meets (suc m) k = go (ltb (net.guard (order m) k) 255) refl (lowest-meets m k)
+  lowest_meets zero k = inl refl
+  lowest_meets (suc m) k = go (ltb (net.guard (order m) k) 255) refl (lowest_meets m k)
     where
       low : ℕ
       low = lowest net plan order m k
@@ -216,7 +216,7 @@ module _ (net : Net) (n : ℕ) (good : Good net n) (o : ℕ → ℕ) (ord : Orde
 
   held : (k : ℕ) → k < n → (plan k ≡ net.low k) ⊎ ((j : ℕ) × HoldsUp net plan n k j)
   held = everywhere net n o ord (λ k. (plan k ≡ net.low k) ⊎ ((j : ℕ) × HoldsUp net plan n k j))
-      (λ i l. go i l (lowest-meets net plan o i (o i)) (packs net n o ord t room (lowest net) (lowest_local net) i l))
+      (λ i l. go i l (lowest_meets net plan o i (o i)) (packs net n o ord t room (lowest net) (lowest_local net) i l))
     where
       go : (i : ℕ) → i < n
           → (lowest net plan o i (o i) ≡ net.low (o i)) ⊎ ((j : ℕ) × (j < i) × Conflict net (o j) (o i) × (past net (o j) (o i) (plan (o j)) ≡ lowest net plan o i (o i)))

@@ -74,27 +74,27 @@ module _ (n : ℕ) (labels : List ℕ) (lent : Lent) (starts : List ℕ) (ok : W
   unfolding label_twice
   none_before k l = found_not (is_row labels (label_of labels k)) k (ok.once k l)
 
-  new-label : (k : ℕ) → k < n → find labels k (label_of labels k) ≡ k
+  new_label : (k : ℕ) → k < n → find labels k (label_of labels k) ≡ k
   unfolding find
-  new-label k l = first_none (is_row labels (label_of labels k)) k (none_before k l)
+  new_label k l = first_none (is_row labels (label_of labels k)) k (none_before k l)
 
   pub found_label : (k : ℕ) → k < n → find (kept_labels n labels) n (label_of labels k) ≡ k
   unfolding find
   found_label k l = find_kept labels n (label_of labels k) ok.network.few ∙ first_at (is_row labels (label_of labels k)) n k (none_before k l) (its_row k l) l
 
   -- the paths
-  path-back : (k : ℕ) → k < n → (l : List ℕ) → path_step k (kept_labels k labels, kept_cells k lent.widths) (path_text labels lent.widths k ++ l) ≡ right (kept_labels (suc k) labels, kept_cells (suc k) lent.widths) l
-  path-back k h l =
+  path_back : (k : ℕ) → k < n → (l : List ℕ) → path_step k (kept_labels k labels, kept_cells k lent.widths) (path_text labels lent.widths k ++ l) ≡ right (kept_labels (suc k) labels, kept_cells (suc k) lent.widths) l
+  path_back k h l =
       let b : k < 128 = omega (arith, ok.network.few) in
       let w = ok.network.width k h in
       path_fine k (kept_labels k labels) (kept_cells k lent.widths) (path_text labels lent.widths k ++ l) (label_of labels k) (at lent.widths k) l
       (ap path_line (line_flat labels lent.widths k l) ∙ line_trip (label_of labels k) (at lent.widths k) l (label_all labels k) (some_byte k h) (label_short labels k) (omega arith))
-      k (sym (find_kept labels k (label_of labels k) (omega arith) ∙ new-label k h)) (omega arith) w.0 w.1
+      k (sym (find_kept labels k (label_of labels k) (omega arith) ∙ new_label k h)) (omega arith) w.0 w.1
       ∙ ap (λ (x : List ℕ). right (x, set (kept_cells k lent.widths) k (at lent.widths k)) l) (labels_more labels k (label_of labels k) b (row_bytes labels (label_of labels k) k (its_row k h)))
       ∙ ap (λ (x : List ℕ). right (kept_labels (suc k) labels, x) l) (cells_more lent.widths k b)
 
   pub paths_back : (l : List ℕ) → lines path_step 2 n 0 (kept_labels 0 labels, kept_cells 0 lent.widths) (join_from n 0 (path_text labels lent.widths) ++ l) ≡ done (kept_labels n labels, kept_cells n lent.widths) l
-  paths_back l = lines_back path_step 2 n (λ k. (kept_labels k labels, kept_cells k lent.widths)) (path_text labels lent.widths) path-back n 0 (omega arith) l
+  paths_back l = lines_back path_step 2 n (λ k. (kept_labels k labels, kept_cells k lent.widths)) (path_text labels lent.widths) path_back n 0 (omega arith) l
       ∙ ap (λ (m : ℕ). done (kept_labels m labels, kept_cells m lent.widths) l) (zero-add n)
 
   -- the starts

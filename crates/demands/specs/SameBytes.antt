@@ -42,9 +42,9 @@ module _ (n : ℕ) (labels : List ℕ) (lent : Lent) (starts : List ℕ) (few : 
   cell_same : (table : List ℕ) (k : ℕ) → k < n → at (kept_cells n table) k ≡ at table k
   cell_same table k l = cells_at n table k (omega arith) ∙ front_in n table k l
 
-  guard-same : (i j : ℕ) → i < n → j < n → at G (cell i j) ≡ at lent.guards (cell i j)
+  guard_same : (i j : ℕ) → i < n → j < n → at G (cell i j) ≡ at lent.guards (cell i j)
   unfolding kept_guards
-  guard-same i j x y = tab_at 16384 (square_of n lent.guards) (cell i j) (omega arith) ∙ square_in n lent.guards (cell i j) (omega arith) (omega arith)
+  guard_same i j x y = tab_at 16384 (square_of n lent.guards) (cell i j) (omega arith) ∙ square_in n lent.guards (cell i j) (omega arith) (omega arith)
 
   label_same : (k : ℕ) → k < n → label_of L k ≡ label_of labels k
   unfolding label_of
@@ -60,53 +60,53 @@ module _ (n : ℕ) (labels : List ℕ) (lent : Lent) (starts : List ℕ) (few : 
 
   pair_same : (i j : ℕ) → i < n → j < n → is_pair G i j ≡ is_pair lent.guards i j
   unfolding is_pair
-  pair_same i j x y = ap (λ (g : ℕ). ltb i j && ltb g 255) (guard-same i j x y)
+  pair_same i j x y = ap (λ (g : ℕ). ltb i j && ltb g 255) (guard_same i j x y)
 
-  pairs-same : pairs n G ≡ pairs n lent.guards
+  pairs_same : pairs n G ≡ pairs n lent.guards
   unfolding pairs
-  pairs-same =
+  pairs_same =
       sum_same (λ i. sum (λ j. cond (is_pair G i j) 1 0) n) (λ i. sum (λ j. cond (is_pair lent.guards i j) 1 0) n) n
       (λ i x. sum_same (λ j. cond (is_pair G i j) 1 0) (λ j. cond (is_pair lent.guards i j) 1 0) n (λ j y. ap (λ (b : Bool). cond b 1 0) (pair_same i j x y)))
 
-  plan-same : has_plan n S ≡ has_plan n starts
+  plan_same : has_plan n S ≡ has_plan n starts
   unfolding has_plan
-  plan-same = found_same (λ k. not (eqb (at S k) 0)) (λ k. not (eqb (at starts k) 0)) n (λ k l. ap (λ (x : ℕ). not (eqb x 0)) (cell_same starts k l))
+  plan_same = found_same (λ k. not (eqb (at S k) 0)) (λ k. not (eqb (at starts k) 0)) n (λ k l. ap (λ (x : ℕ). not (eqb x 0)) (cell_same starts k l))
 
-  path-same : (table : List ℕ) (k : ℕ) → k < n → path_text L (kept_cells n table) k ≡ path_text labels table k
+  path_same : (table : List ℕ) (k : ℕ) → k < n → path_text L (kept_cells n table) k ≡ path_text labels table k
   unfolding path_text
-  path-same table k l = rw (label_same k l, cell_same table k l)
+  path_same table k l = rw (label_same k l, cell_same table k l)
 
-  guard-text-same : (i j : ℕ) → i < n → j < n → guard_text L G i j ≡ guard_text labels lent.guards i j
+  guard_text_same : (i j : ℕ) → i < n → j < n → guard_text L G i j ≡ guard_text labels lent.guards i j
   unfolding guard_text
-  guard-text-same i j x y = rw (pair_same i j x y, label_same i x, label_same j y, guard-same i j x y)
+  guard_text_same i j x y = rw (pair_same i j x y, label_same i x, label_same j y, guard_same i j x y)
 
-  paths-same : (table : List ℕ) → join_from n 0 (path_text L (kept_cells n table)) ≡ join_from n 0 (path_text labels table)
-  paths-same table = join_same (path_text L (kept_cells n table)) (path_text labels table) n 0 (λ i l. path-same table i (omega arith))
+  paths_same : (table : List ℕ) → join_from n 0 (path_text L (kept_cells n table)) ≡ join_from n 0 (path_text labels table)
+  paths_same table = join_same (path_text L (kept_cells n table)) (path_text labels table) n 0 (λ i l. path_same table i (omega arith))
 
-  guards-same : join_from n 0 (λ i. join_from n 0 (guard_text L G i)) ≡ join_from n 0 (λ i. join_from n 0 (guard_text labels lent.guards i))
-  guards-same =
+  guards_same : join_from n 0 (λ i. join_from n 0 (guard_text L G i)) ≡ join_from n 0 (λ i. join_from n 0 (guard_text labels lent.guards i))
+  guards_same =
       join_same (λ i. join_from n 0 (guard_text L G i)) (λ i. join_from n 0 (guard_text labels lent.guards i)) n 0
-      (λ i x. join_same (guard_text L G i) (guard_text labels lent.guards i) n 0 (λ j y. guard-text-same i j (omega arith) (omega arith)))
+      (λ i x. join_same (guard_text L G i) (guard_text labels lent.guards i) n 0 (λ j y. guard_text_same i j (omega arith) (omega arith)))
 
   -- the text of the kept cells is the text of all
   pub text_same : sheet_text n L (lend W G) S ≡ sheet_text n labels lent starts
   unfolding sheet_text paths_text guards_text starts_text
-  text_same = rw (paths-same lent.widths, pairs-same, guards-same, plan-same, paths-same starts)
+  text_same = rw (paths_same lent.widths, pairs_same, guards_same, plan_same, paths_same starts)
 
   -- each test of a kept label is the test of the label
-  label-test : (k : ℕ) → k < n → bad_label L k ≡ bad_label labels k
+  label_test_lem : (k : ℕ) → k < n → bad_label L k ≡ bad_label labels k
   unfolding bad_label
-  label-test k l = rw (label_same k l, row_kept labels n (label_of labels k) k few l)
+  label_test_lem k l = rw (label_same k l, row_kept labels n (label_of labels k) k few l)
 
-  twice-test : (k : ℕ) → k < n → label_twice L k ≡ label_twice labels k
+  twice_test : (k : ℕ) → k < n → label_twice L k ≡ label_twice labels k
   unfolding label_twice
-  twice-test k l =
+  twice_test k l =
       ap (λ (w : List ℕ). found (is_row L w) k) (label_same k l)
       ∙ found_same (is_row L (label_of labels k)) (is_row labels (label_of labels k)) k (λ i x. row_kept labels n (label_of labels k) i few (omega arith))
 
-  guards-length : length G ≡ 16384
+  guards_length : length G ≡ 16384
   unfolding kept_guards
-  guards-length = tab_length 16384 0 (square_of n lent.guards)
+  guards_length = tab_length 16384 0 (square_of n lent.guards)
 
   -- what the writer accepts it accepts again
   pub again_writable : Writable n labels lent starts → Writable n L (lend W G) S
@@ -115,18 +115,18 @@ module _ (n : ℕ) (labels : List ℕ) (lent : Lent) (starts : List ℕ) (few : 
       some = w.network.some;
       few = w.network.few;
       widths_size = cells_length n lent.widths;
-      guards_size = guards-length;
+      guards_size = guards_length;
       width = λ k l. rw (cell_same lent.widths k l) (w.network.width k l);
-      guard = λ i j x y. rw (guard-same i j x y) (w.network.guard i j x y);
-      diagonal = λ k l. guard-same k k l l ∙ w.network.diagonal k l;
-      mirrored = λ i j x y. guard-same i j x y ∙ w.network.mirrored i j x y ∙ sym (guard-same j i y x);
+      guard = λ i j x y. rw (guard_same i j x y) (w.network.guard i j x y);
+      diagonal = λ k l. guard_same k k l l ∙ w.network.diagonal k l;
+      mirrored = λ i j x y. guard_same i j x y ∙ w.network.mirrored i j x y ∙ sym (guard_same j i y x);
     };
     labels_size = labels_length n labels;
     starts_size = cells_length n starts;
-    formed = λ k l. label-test k l ∙ w.formed k l;
-    once = λ k l. twice-test k l ∙ w.once k l;
-    not_many = omega (arith, pairs-same, w.not_many);
-    planned = λ e k l. rw (cell_same starts k l) (w.planned (sym plan-same ∙ e) k l);
+    formed = λ k l. label_test_lem k l ∙ w.formed k l;
+    once = λ k l. twice_test k l ∙ w.once k l;
+    not_many = omega (arith, pairs_same, w.not_many);
+    planned = λ e k l. rw (cell_same starts k l) (w.planned (sym plan_same ∙ e) k l);
   }
 
 -- what was written, read and written again, given room, is the same bytes, with `written_read`

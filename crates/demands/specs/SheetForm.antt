@@ -27,7 +27,7 @@ use Rattle.demands.specs.RoundTrip.{some_byte, found_label, label_all, lines_bac
 use Rattle.demands.specs.SheetTrip.{starts_trip}
 use Rattle.demands.specs.Forms.{Label, all_bytes, form_guard, pair_line, line_text}
 use Rattle.demands.specs.OnLines.{FirstRight, start, more, path_says, guard_says, start_says}
-use Rattle.demands.specs.OnReading.{SheetTables, SheetRight, GuardsRight, withoutPlan, withPlan, sheet_read, reading_is, reading_right}
+use Rattle.demands.specs.OnReading.{SheetTables, SheetRight, GuardsRight, without_plan, with_plan, sheet_read, reading_is, reading_right}
 use Rattle.demands.specs.ReadCells.{path_put, guard_put, start_put, PastCleared, same_cells, same_labels}
 use Rattle.demands.specs.LongestSheet.{row_label}
 
@@ -163,8 +163,8 @@ module _ (n : ℕ) (few : n ≤ 128) (t : List ℕ) (i j g : ℕ) (long : length
   abbrev put : List ℕ
   put = set (set t (cell i j) g) (cell j i) g
 
-  put-mirror : at put (cell j i) ≡ g
-  put-mirror = at_same (set t (cell i j) g) (cell j i) g (omega (arith, length-set t (cell i j) g))
+  put_mirror : at put (cell j i) ≡ g
+  put_mirror = at_same (set t (cell i j) g) (cell j i) g (omega (arith, length-set t (cell i j) g))
 
   put_first : at put (cell i j) ≡ g
   put_first = at_other (set t (cell i j) g) (cell j i) g (cell i j) (λ q. apart (omega arith)) ∙ at_same t (cell i j) g (omega arith)
@@ -173,27 +173,27 @@ module _ (n : ℕ) (few : n ≤ 128) (t : List ℕ) (i j g : ℕ) (long : length
   put_other u v h k p q =
       at_other (set t (cell i j) g) (cell j i) g (cell u v) (λ e. q (omega arith, omega arith)) ∙ at_other t (cell i j) g (cell u v) (λ e. p (omega arith, omega arith))
 
-  put-long : length put ≡ 16384
-  put-long = length-set (set t (cell i j) g) (cell j i) g ∙ length-set t (cell i j) g ∙ long
+  put_long : length put ≡ 16384
+  put_long = length-set (set t (cell i j) g) (cell j i) g ∙ length-set t (cell i j) g ∙ long
 
-  put-mirrored : ((u v : ℕ) → u < n → v < n → at t (cell u v) ≡ at t (cell v u)) → (u v : ℕ) → u < n → v < n → at put (cell u v) ≡ at put (cell v u)
-  put-mirrored m u v h k = go (which i j u v)
+  put_mirrored : ((u v : ℕ) → u < n → v < n → at t (cell u v) ≡ at t (cell v u)) → (u v : ℕ) → u < n → v < n → at put (cell u v) ≡ at put (cell v u)
+  put_mirrored m u v h k = go (which i j u v)
     where
       go : Which i j u v → at put (cell u v) ≡ at put (cell v u)
-      go (same p q) = rw (p, q) (put_first ∙ sym put-mirror)
-      go (turned p q) = rw (p, q) (put-mirror ∙ sym put_first)
+      go (same p q) = rw (p, q) (put_first ∙ sym put_mirror)
+      go (turned p q) = rw (p, q) (put_mirror ∙ sym put_first)
       go (neither p q) = put_other u v (omega arith) (omega arith) p q ∙ m u v h k ∙ sym (put_other v u (omega arith) (omega arith) (λ e. q (e.1, e.0)) (λ e. p (e.1, e.0)))
 
   -- the pairs so far, and i, j after them
   module _ (m : ℕ) (a b : ℕ → ℕ) (so_far : Listed n t m a b) (fresh : at t (cell i j) ≡ 255) (mirror : at t (cell j i) ≡ 255) (most : g ≤ 32) where
-    old-first : (k : ℕ) → k < m → ((a k ≡ i) × (b k ≡ j)) → ⊥
-    old-first k h e = omega (arith, so_far.guard k h, ap (λ (c : ℕ). at t c) (λ s. cell (e.0 s) (e.1 s)))
+    old_first : (k : ℕ) → k < m → ((a k ≡ i) × (b k ≡ j)) → ⊥
+    old_first k h e = omega (arith, so_far.guard k h, ap (λ (c : ℕ). at t c) (λ s. cell (e.0 s) (e.1 s)))
 
-    old-turned : (k : ℕ) → k < m → ((a k ≡ j) × (b k ≡ i)) → ⊥
-    old-turned k h e = omega (arith, so_far.guard k h, ap (λ (c : ℕ). at t c) (λ s. cell (e.0 s) (e.1 s)))
+    old_turned : (k : ℕ) → k < m → ((a k ≡ j) × (b k ≡ i)) → ⊥
+    old_turned k h e = omega (arith, so_far.guard k h, ap (λ (c : ℕ). at t c) (λ s. cell (e.0 s) (e.1 s)))
 
-    old-cell : (k : ℕ) → k < m → at put (cell (a k) (b k)) ≡ at t (cell (a k) (b k))
-    old-cell k h = put_other (a k) (b k) (omega (arith, so_far.first k h)) (omega (arith, so_far.second k h)) (old-first k h) (old-turned k h)
+    old_cell : (k : ℕ) → k < m → at put (cell (a k) (b k)) ≡ at t (cell (a k) (b k))
+    old_cell k h = put_other (a k) (b k) (omega (arith, so_far.first k h)) (omega (arith, so_far.second k h)) (old_first k h) (old_turned k h)
 
     abbrev a' : ℕ → ℕ
     a' = extend a m i
@@ -207,7 +207,7 @@ module _ (n : ℕ) (few : n ≤ 128) (t : List ℕ) (i j g : ℕ) (long : length
       second = each_suc (λ k. b' k < n) m (λ k h. rw (extend_in b m j k h) (so_far.second k h)) (rw (extend_at b m j) y);
       apart = each_suc (λ k. a' k ≢ b' k) m (λ k h. rw (extend_in a m i k h, extend_in b m j k h) (so_far.apart k h)) (rw (extend_at a m i, extend_at b m j) apart);
       guard = each_suc (λ k. at put (cell (a' k) (b' k)) ≤ 32) m
-          (λ k h. rw (extend_in a m i k h, extend_in b m j k h, old-cell k h) (so_far.guard k h)) (rw (extend_at a m i, extend_at b m j, put_first) most);
+          (λ k h. rw (extend_in a m i k h, extend_in b m j k h, old_cell k h) (so_far.guard k h)) (rw (extend_at a m i, extend_at b m j, put_first) most);
       once = λ h k l r. only h k l (dec_lt k m) r;
       all = λ u v p q ne. named u v p q ne (which i j u v);
     }
@@ -219,8 +219,8 @@ module _ (n : ℕ) (few : n ≤ 128) (t : List ℕ) (i j g : ℕ) (long : length
             rw (e, extend_in a m i h (omega arith), extend_in b m j h (omega arith), extend_at a m i, extend_at b m j) (λ c. last c)
           where
             last : ((a h ≡ i) × (b h ≡ j)) ⊎ ((a h ≡ j) × (b h ≡ i)) → ⊥
-            last (inl c) = old-first h (omega arith) c
-            last (inr c) = old-turned h (omega arith) c
+            last (inl c) = old_first h (omega arith) c
+            last (inr c) = old_turned h (omega arith) c
 
         named : (u v : ℕ) → u < n → v < n → at put (cell u v) ≢ 255 → Which i j u v → (k : ℕ) × (k < suc m) × (((a' k ≡ u) × (b' k ≡ v)) ⊎ ((a' k ≡ v) × (b' k ≡ u)))
         named u v p q ne (same c d) = (m, omega arith, inl (extend_at a m i ∙ sym c, extend_at b m j ∙ sym d))
@@ -262,11 +262,11 @@ guards_said n labels l k'' t'' l'' few long (more k t l' t' r f e) =
     subst (λ (u : List ℕ). GuardsSaid n labels l (suc k) u r) (sym p.put) (record {
       a = extend s.a k p.i;
       b = extend s.b k p.j;
-      long = put-long n few t p.i p.j p.g s.long x y p.apart;
-      mirrored = put-mirrored n few t p.i p.j p.g s.long x y p.apart s.mirrored;
+      long = put_long n few t p.i p.j p.g s.long x y p.apart;
+      mirrored = put_mirrored n few t p.i p.j p.g s.long x y p.apart s.mirrored;
       listed = listed_more n few t p.i p.j p.g s.long x y p.apart k s.a s.b s.listed p.fresh mirror p.most;
       text = join_more k (pair_lines labels t s.a s.b) (pair_lines labels (set (set t (cell p.i p.j) p.g) (cell p.j p.i) p.g) (extend s.a k p.i) (extend s.b k p.j)) l l' r
-          (λ h q. rw (extend_in s.a k p.i h q, extend_in s.b k p.j h q, old-cell n few t p.i p.j p.g s.long x y p.apart k s.a s.b s.listed p.fresh mirror p.most h q))
+          (λ h q. rw (extend_in s.a k p.i h q, extend_in s.b k p.j h q, old_cell n few t p.i p.j p.g s.long x y p.apart k s.a s.b s.listed p.fresh mirror p.most h q))
           s.text
           (p.formed.text
           ∙ ap (λ (u : List ℕ). u ++ r)
@@ -304,17 +304,17 @@ guarded_form l n labels widths m guards l₄ starts g e =
       listed = s.listed;
       lines =
           g.paths.count.text ∙ ap (λ (x : List ℕ). count_text paths_word n ++ x) p.text ∙ sym (append_assoc (count_text paths_word n) (join_from n 0 (path_text labels widths)) g.l₂)
-          ∙ paths-are n labels widths g.l₂ ∙ ap (λ (x : List ℕ). paths_text n labels widths ++ x) (g.count.text ∙ ap (λ (x : List ℕ). count_text guards_word m ++ x)
+          ∙ paths_are n labels widths g.l₂ ∙ ap (λ (x : List ℕ). paths_text n labels widths ++ x) (g.count.text ∙ ap (λ (x : List ℕ). count_text guards_word m ++ x)
           (s.text ∙ ap (λ (x : List ℕ). join_from m 0 (pair_lines labels guards s.a s.b) ++ x) e));
     }
   where
-    paths-are : (n : ℕ) (labels widths r : List ℕ) → (count_text paths_word n ++ join_from n 0 (path_text labels widths)) ++ r ≡ paths_text n labels widths ++ r
-    paths-are n labels widths r = unfold paths_text in refl
+    paths_are : (n : ℕ) (labels widths r : List ℕ) → (count_text paths_word n ++ join_from n 0 (path_text labels widths)) ++ r ≡ paths_text n labels widths ++ r
+    paths_are n labels widths r = unfold paths_text in refl
 
 sheet_form : (l : List ℕ) (t : ℕ × List ℕ × Lent × List ℕ) → SheetRight l t → FormOf l t.0 t.1 t.2 t.3
-sheet_form l t (withoutPlan n labels widths m guards g) =
+sheet_form l t (without_plan n labels widths m guards g) =
     guarded_form l n labels widths m guards [] (cleared 128 0) g (sym (no_plan n g.paths.most labels))
-sheet_form l t (withPlan n labels widths m guards starts s) =
+sheet_form l t (with_plan n labels widths m guards starts s) =
     let g = s.guarded in
     let p = paths_said g.paths.l₁ n (labels, widths) g.l₂ g.paths.most g.paths.each in
     let h = starts_said labels s.l₅ n starts [] p.long_labels g.paths.most s.each in
@@ -344,12 +344,12 @@ module _ (n : ℕ) (labels : List ℕ) (lent : Lent) (starts : List ℕ) (w : Wr
   abbrev fill : ℕ → List ℕ
   fill k = filled guards a b k
 
-  fill-long : (k : ℕ) → length (fill k) ≡ 16384
+  fill_long : (k : ℕ) → length (fill k) ≡ 16384
   unfolding filled
-  fill-long zero = cleared_length 16384 255
-  fill-long (suc k) =
+  fill_long zero = cleared_length 16384 255
+  fill_long (suc k) =
       length-set (set (fill k) (cell (a k) (b k)) (at guards (cell (a k) (b k)))) (cell (b k) (a k)) (at guards (cell (a k) (b k)))
-      ∙ length-set (fill k) (cell (a k) (b k)) (at guards (cell (a k) (b k))) ∙ fill-long k
+      ∙ length-set (fill k) (cell (a k) (b k)) (at guards (cell (a k) (b k))) ∙ fill_long k
 
   -- a pair that is none of the first k
   abbrev Names : ℕ → ℕ → ℕ → Type 0
@@ -359,15 +359,15 @@ module _ (n : ℕ) (labels : List ℕ) (lent : Lent) (starts : List ℕ) (w : Wr
   unfolding filled
   fill_none zero l u v x y none = cleared_at 16384 255 (cell u v) (omega arith)
   fill_none (suc k) l u v x y none =
-      put_other n few (fill k) (a k) (b k) (at guards (cell (a k) (b k))) (fill-long k) (listed.first k (omega arith)) (listed.second k (omega arith)) (listed.apart k (omega arith)) u v x y
+      put_other n few (fill k) (a k) (b k) (at guards (cell (a k) (b k))) (fill_long k) (listed.first k (omega arith)) (listed.second k (omega arith)) (listed.apart k (omega arith)) u v x y
       (λ e. none k (omega arith) (inl (sym e.0, sym e.1))) (λ e. none k (omega arith) (inr (sym e.1, sym e.0)))
       ∙ fill_none k (omega arith) u v x y (λ h g. none h (omega arith))
 
   -- one of them
-  fill-set : (k : ℕ) → k ≤ m → (u v : ℕ) → u < n → v < n → (h : ℕ) → h < k → Names h u v → at (fill k) (cell u v) ≡ at guards (cell u v)
+  fill_set : (k : ℕ) → k ≤ m → (u v : ℕ) → u < n → v < n → (h : ℕ) → h < k → Names h u v → at (fill k) (cell u v) ≡ at guards (cell u v)
   unfolding filled
-  fill-set zero l u v x y h g s = absurd (omega arith)
-  fill-set (suc k) l u v x y h g s = go (which (a k) (b k) u v) (ℕ_discrete h k) (λ f. fill-set k (omega arith) u v x y h f s)
+  fill_set zero l u v x y h g s = absurd (omega arith)
+  fill_set (suc k) l u v x y h g s = go (which (a k) (b k) u v) (ℕ_discrete h k) (λ f. fill_set k (omega arith) u v x y h f s)
     where
       p : a k < n
       p = listed.first k (omega arith)
@@ -377,11 +377,11 @@ module _ (n : ℕ) (labels : List ℕ) (lent : Lent) (starts : List ℕ) (w : Wr
 
       go : Which (a k) (b k) u v → Dec (h ≡ k) → (h < k → at (fill k) (cell u v) ≡ at guards (cell u v))
           → at (set (set (fill k) (cell (a k) (b k)) (at guards (cell (a k) (b k)))) (cell (b k) (a k)) (at guards (cell (a k) (b k)))) (cell u v) ≡ at guards (cell u v)
-      go (same c d) e ih = rw (c, d) (put_first n few (fill k) (a k) (b k) (at guards (cell (a k) (b k))) (fill-long k) p q (listed.apart k (omega arith)))
+      go (same c d) e ih = rw (c, d) (put_first n few (fill k) (a k) (b k) (at guards (cell (a k) (b k))) (fill_long k) p q (listed.apart k (omega arith)))
       go (turned c d) e ih =
-          rw (c, d) (put-mirror n few (fill k) (a k) (b k) (at guards (cell (a k) (b k))) (fill-long k) p q (listed.apart k (omega arith)) ∙ w.network.mirrored (a k) (b k) p q)
+          rw (c, d) (put_mirror n few (fill k) (a k) (b k) (at guards (cell (a k) (b k))) (fill_long k) p q (listed.apart k (omega arith)) ∙ w.network.mirrored (a k) (b k) p q)
       go (neither c d) (no e) ih =
-          put_other n few (fill k) (a k) (b k) (at guards (cell (a k) (b k))) (fill-long k) p q (listed.apart k (omega arith)) u v (omega arith) (omega arith) c d ∙ ih (omega arith)
+          put_other n few (fill k) (a k) (b k) (at guards (cell (a k) (b k))) (fill_long k) p q (listed.apart k (omega arith)) u v (omega arith) (omega arith) c d ∙ ih (omega arith)
       go (neither c d) (yes e) ih = absurd (clash s)
         where
           clash : Names h u v → ⊥
@@ -389,10 +389,10 @@ module _ (n : ℕ) (labels : List ℕ) (lent : Lent) (starts : List ℕ) (w : Wr
           clash (inr r) = d (sym r.1 ∙ ap b e, sym r.0 ∙ ap a e)
 
   fill_all : fill m ≡ guards
-  fill_all = ext_get_or 0 (fill m) guards (fill-long m ∙ sym w.network.guards_size) (λ c l. go c (c / 128) (c % 128) (omega arith) (omega (arith, fill-long m)) (omega arith) (dec_lt (c / 128) n) (dec_lt (c % 128) n))
+  fill_all = ext_get_or 0 (fill m) guards (fill_long m ∙ sym w.network.guards_size) (λ c l. go c (c / 128) (c % 128) (omega arith) (omega (arith, fill_long m)) (omega arith) (dec_lt (c / 128) n) (dec_lt (c % 128) n))
     where
       inside : (u v : ℕ) → u < n → v < n → Dec (at guards (cell u v) ≡ 255) → at (fill m) (cell u v) ≡ at guards (cell u v)
-      inside u v x y (no e) = let k = listed.all u v x y e in fill-set m (omega arith) u v x y k.0 k.1 k.2
+      inside u v x y (no e) = let k = listed.all u v x y e in fill_set m (omega arith) u v x y k.0 k.1 k.2
       inside u v x y (yes e) = fill_none m (omega arith) u v (omega (arith, few)) (omega (arith, few)) (λ h g s. clash h g s) ∙ sym e
         where
           clash : (h : ℕ) → h < m → Names h u v → ⊥
@@ -414,20 +414,20 @@ module _ (n : ℕ) (labels : List ℕ) (lent : Lent) (starts : List ℕ) (w : Wr
       go c u v e x y (yes p) (no q) = rw e (outside u v x y (inr (omega arith)))
 
   -- each guard line is read
-  its-label : (i : ℕ) → i < n → Label (label_of labels i)
-  its-label i l = record { some = omega (arith, some_byte n labels lent starts w i l); few = label_short labels i; bytes = all_bytes (label_of labels i) (label_all labels i) }
+  its_label : (i : ℕ) → i < n → Label (label_of labels i)
+  its_label i l = record { some = omega (arith, some_byte n labels lent starts w i l); few = label_short labels i; bytes = all_bytes (label_of labels i) (label_all labels i) }
 
-  its-path : (i : ℕ) → i < n → find labels n (label_of labels i) ≡ i
-  its-path i l = ap (λ (t : List ℕ). find t n (label_of labels i)) (same_labels n labels lent starts past w.labels_size) ∙ found_label n labels lent starts w i l
+  its_path : (i : ℕ) → i < n → find labels n (label_of labels i) ≡ i
+  its_path i l = ap (λ (t : List ℕ). find t n (label_of labels i)) (same_labels n labels lent starts past w.labels_size) ∙ found_label n labels lent starts w i l
 
-  pair-back : (k : ℕ) → k < m → (l : List ℕ) → guard_step n labels k (fill k) (pair_lines labels guards a b k ++ l) ≡ right (fill (suc k)) l
+  pair_back : (k : ℕ) → k < m → (l : List ℕ) → guard_step n labels k (fill k) (pair_lines labels guards a b k ++ l) ≡ right (fill (suc k)) l
   unfolding filled
-  pair-back k h l =
+  pair_back k h l =
       guard_any n labels k (fill k) (pair_lines labels guards a b k ++ l)
       ∙ guard_fine n labels (fill k) (pair_lines labels guards a b k ++ l) (label_of labels (a k)) (label_of labels (b k)) (at guards (cell (a k) (b k))) l
       (form_guard (pair_lines labels guards a b k ++ l) (label_of labels (a k)) (label_of labels (b k)) (at guards (cell (a k) (b k))) l
-      (record { first = its-label (a k) p; second = its-label (b k) q; number = omega (arith, listed.guard k h); text = refl }))
-      (a k) (b k) (sym (its-path (a k) p)) (sym (its-path (b k) q)) p q (listed.apart k h)
+      (record { first = its_label (a k) p; second = its_label (b k) q; number = omega (arith, listed.guard k h); text = refl }))
+      (a k) (b k) (sym (its_path (a k) p)) (sym (its_path (b k) q)) p q (listed.apart k h)
       (fill_none k (omega arith) (a k) (b k) (omega (arith, few, p)) (omega (arith, few, q)) (λ i g s. listed.once i k g h s)) (listed.guard k h)
     where
       p : a k < n
@@ -440,37 +440,37 @@ module _ (n : ℕ) (labels : List ℕ) (lent : Lent) (starts : List ℕ) (w : Wr
   unfolding filled
   empty = refl
 
-  pairs-back : (top : ℕ) (l : List ℕ) → lines (guard_step n labels) top m 0 (cleared 16384 255) (join_from m 0 (pair_lines labels guards a b) ++ l) ≡ done guards l
-  pairs-back top l =
+  pairs_back : (top : ℕ) (l : List ℕ) → lines (guard_step n labels) top m 0 (cleared 16384 255) (join_from m 0 (pair_lines labels guards a b) ++ l) ≡ done guards l
+  pairs_back top l =
       ap (λ (t : List ℕ). lines (guard_step n labels) top m 0 t (join_from m 0 (pair_lines labels guards a b) ++ l)) empty
-      ∙ lines_back (guard_step n labels) top m fill (pair_lines labels guards a b) pair-back m 0 (omega arith) l
+      ∙ lines_back (guard_step n labels) top m fill (pair_lines labels guards a b) pair_back m 0 (omega arith) l
       ∙ ap (λ (k : ℕ). done (fill k) l) (zero-add m) ∙ ap (λ (t : List ℕ). done t l) fill_all
 
   -- so the sheet is read, to these tables
-  guards-form-back : m ≤ 2000 → guards_part n labels (cleared 16384 255) (cleared 128 0) (count_text guards_word m ++ (join_from m 0 (pair_lines labels guards a b) ++ starts_text n labels starts))
+  guards_form_back : m ≤ 2000 → guards_part n labels (cleared 16384 255) (cleared 128 0) (count_text guards_word m ++ (join_from m 0 (pair_lines labels guards a b) ++ starts_text n labels starts))
       ≡ done (guards, starts) []
   unfolding after
-  guards-form-back most =
+  guards_form_back most =
       guards_rest n labels (cleared 16384 255) (cleared 128 0) (count_text guards_word m ++ (join_from m 0 (pair_lines labels guards a b) ++ starts_text n labels starts)) m
       (join_from m 0 (pair_lines labels guards a b) ++ starts_text n labels starts)
       (count_trip guards_word m (join_from m 0 (pair_lines labels guards a b) ++ starts_text n labels starts) (omega arith)) most guards (starts_text n labels starts)
-      (pairs-back (n + 3) (starts_text n labels starts))
-      ∙ rw starts-back-here
+      (pairs_back (n + 3) (starts_text n labels starts))
+      ∙ rw starts_back_here
     where
-      starts-back-here : starts_part n (n + m + 3) labels (cleared 128 0) (starts_text n labels starts) ≡ done starts []
-      starts-back-here =
+      starts_back_here : starts_part n (n + m + 3) labels (cleared 128 0) (starts_text n labels starts) ≡ done starts []
+      starts_back_here =
           ap (λ (t : List ℕ). starts_part n (n + m + 3) t (cleared 128 0) (starts_text n labels starts)) (same_labels n labels lent starts past w.labels_size)
           ∙ starts_trip n labels lent starts w (n + m + 3)
           ∙ ap (λ (t : List ℕ). done t []) (sym (same_cells n labels lent starts past starts w.starts_size past.start_cells))
 
-  sheet-form-back : m ≤ 2000 → sheet_read (sheet_lines n labels lent starts m a b) ≡ done (n, labels, lent, starts) []
+  sheet_form_back : m ≤ 2000 → sheet_read (sheet_lines n labels lent starts m a b) ≡ done (n, labels, lent, starts) []
   unfolding paths_text
-  sheet-form-back most =
+  sheet_form_back most =
       sheet_done (cleared 1024 0) cleared_network (cleared 128 0) ((count_text paths_word n ++ P) ++ R) n (P ++ R)
       (ap (count_line paths_word) (append_assoc (count_text paths_word n) P R) ∙ count_trip paths_word n (P ++ R) (omega (arith, few))) w.network.some few labels lent.widths R
       (ap (λ (t : List ℕ × List ℕ). lines path_step 2 n 0 t (P ++ R)) (λ i. (labels_none labels i, cells_none lent.widths i)) ∙ paths_back n labels lent starts w R
       ∙ sym (λ i. done (same_labels n labels lent starts past w.labels_size i, same_cells n labels lent starts past lent.widths w.network.widths_size past.width_cells i) R))
-      guards starts [] (guards-form-back most)
+      guards starts [] (guards_form_back most)
     where
       P : List ℕ
       P = join_from n 0 (path_text labels lent.widths)
@@ -481,4 +481,4 @@ module _ (n : ℕ) (labels : List ℕ) (lent : Lent) (starts : List ℕ) (w : Wr
   -- every sheet of that form is read, to the tables that it is a sheet of
   pub form_read : m ≤ 2000 → (labels' : List ℕ) (lent' : Lent) (starts' : List ℕ) → SheetTables labels' lent' starts'
       → reading (sheet_lines n labels lent starts m a b) labels' lent' starts' ≡ left (record { number = 0; place = 0; n = n }) (labels, lent, starts)
-  form_read most labels' lent' starts' sizes = reading_is (sheet_lines n labels lent starts m a b) labels' lent' starts' sizes (n, labels, lent, starts) [] (sheet-form-back most)
+  form_read most labels' lent' starts' sizes = reading_is (sheet_lines n labels lent starts m a b) labels' lent' starts' sizes (n, labels, lent, starts) [] (sheet_form_back most)

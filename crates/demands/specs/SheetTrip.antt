@@ -28,19 +28,19 @@ use Rattle.demands.specs.GuardTrip.{kept_guards, guards_back, kept_network}
 
 module _ (n : ℕ) (labels : List ℕ) (lent : Lent) (starts : List ℕ) (ok : Writable n labels lent starts) where
   -- no plan: the n starts are zero
-  no-starts : has_plan n starts ≡ false → cleared 128 0 ≡ kept_cells n starts
+  no_starts : has_plan n starts ≡ false → cleared 128 0 ≡ kept_cells n starts
   unfolding has_plan
-  no-starts e = cells_is n starts (cleared 128 0) (cleared_length 128 0) (λ k l. cleared_at 128 0 k l ∙ sym (go k (dec_lt k n)))
+  no_starts e = cells_is n starts (cleared 128 0) (cleared_length 128 0) (λ k l. cleared_at 128 0 k l ∙ sym (go k (dec_lt k n)))
     where
-      zero-start : (k : ℕ) → not (eqb (at starts k) 0) ≡ false → at starts k ≡ 0
-      zero-start k = by (eqb (at starts k) 0) refl
+      zero_start : (k : ℕ) → not (eqb (at starts k) 0) ≡ false → at starts k ≡ 0
+      zero_start k = by (eqb (at starts k) 0) refl
         where
           by : (b : Bool) → eqb (at starts k) 0 ≡ b → not b ≡ false → at starts k ≡ 0
           by true p q = eqb-true (at starts k) 0 p
           by false p q = absurd (true≢false q)
 
       go : (k : ℕ) → Dec (k < n) → front n starts k ≡ 0
-      go k (yes l) = front_in n starts k l ∙ zero-start k (found_not (λ k. not (eqb (at starts k) 0)) n e k l)
+      go k (yes l) = front_in n starts k l ∙ zero_start k (found_not (λ k. not (eqb (at starts k) 0)) n e k l)
       go k (no l) = front_past n starts k (omega arith)
 
   pub starts_trip : (line : ℕ) → starts_part n line (kept_labels n labels) (cleared 128 0) (starts_text n labels starts) ≡ done (kept_cells n starts) []
@@ -50,8 +50,8 @@ module _ (n : ℕ) (labels : List ℕ) (lent : Lent) (starts : List ℕ) (ok : W
       J : List ℕ
       J = join_from n 0 (path_text labels starts)
 
-      with-plan : has_plan n starts ≡ true → starts_part n line (kept_labels n labels) (cleared 128 0) (count_text starts_word n ++ J) ≡ done (kept_cells n starts) []
-      with-plan e =
+      with_plan_lem : has_plan n starts ≡ true → starts_part n line (kept_labels n labels) (cleared 128 0) (count_text starts_word n ++ J) ≡ done (kept_cells n starts) []
+      with_plan_lem e =
           let few = ok.network.few in
           let s = count_text starts_word n ++ J in
           let long : 0 < length s = omega (arith, length-append (count_text starts_word n) J, count_length starts_word n) in
@@ -65,12 +65,12 @@ module _ (n : ℕ) (labels : List ℕ) (lent : Lent) (starts : List ℕ) (ok : W
           ∙ ap (λ (l : List ℕ). done (kept_cells n starts) l) (drop-length s)
 
       go : (b : Bool) → has_plan n starts ≡ b → starts_part n line (kept_labels n labels) (cleared 128 0) (cond b (count_text starts_word n ++ J) []) ≡ done (kept_cells n starts) []
-      go true e = with-plan e
-      go false e = starts_none n line (kept_labels n labels) (cleared 128 0) [] 0 (omega arith) ∙ ap (λ (t : List ℕ). done t []) (no-starts e)
+      go true e = with_plan_lem e
+      go false e = starts_none n line (kept_labels n labels) (cleared 128 0) [] 0 (omega arith) ∙ ap (λ (t : List ℕ). done t []) (no_starts e)
 
-  guards-trip : guards_part n (kept_labels n labels) (cleared 16384 255) (cleared 128 0) (guards_text n labels lent.guards ++ starts_text n labels starts) ≡ done (kept_guards n lent.guards, kept_cells n starts) []
+  guards_trip : guards_part n (kept_labels n labels) (cleared 16384 255) (cleared 128 0) (guards_text n labels lent.guards ++ starts_text n labels starts) ≡ done (kept_guards n lent.guards, kept_cells n starts) []
   unfolding guards_text after
-  guards-trip =
+  guards_trip =
       let G = join_from n 0 (λ i. join_from n 0 (guard_text labels lent.guards i)) in
       let S = starts_text n labels starts in
       let m = pairs n lent.guards in
@@ -91,7 +91,7 @@ module _ (n : ℕ) (labels : List ℕ) (lent : Lent) (starts : List ℕ) (ok : W
       (ap (count_line paths_word) (append_assoc (count_text paths_word n) P R) ∙ count_trip paths_word n (P ++ R) (omega arith)) ok.network.some few
       (kept_labels n labels) (kept_cells n lent.widths) R
       (ap (λ (t : List ℕ × List ℕ). lines path_step 2 n 0 t (P ++ R)) (λ i. (labels_none labels i, cells_none lent.widths i)) ∙ paths_back n labels lent starts ok R)
-      (kept_guards n lent.guards) (kept_cells n starts) [] guards-trip
+      (kept_guards n lent.guards) (kept_cells n starts) [] guards_trip
 
 -- the sheet that a call wrote: the first bytes of the text, as many as it answers
 abbrev pub sheet_of : Left SheetWritten (List ℕ) → List ℕ

@@ -44,20 +44,20 @@ scan_gives m n P bad pos t = go (first bad n) (first_is bad n)
 
 -- a scan of the square has found no bad cell, or the first one, which is in the first row that has one
 pub data Squared (m : ℕ) (bad : ℕ → ℕ → Bool) (lack : ℕ → ℕ → ℕ) (n : ℕ) : Type 0 where
-  allRight : ((i j : ℕ) → i < n → j < n → bad i j ≡ false) → square m bad lack n ≡ no_fault → Squared m bad lack n
-  firstBad : (i j : ℕ) → i < n → j < n → bad i j ≡ true → ((r c : ℕ) → r < i → c < n → bad r c ≡ false) → ((c : ℕ) → c < j → bad i c ≡ false)
+  all_right : ((i j : ℕ) → i < n → j < n → bad i j ≡ false) → square m bad lack n ≡ no_fault → Squared m bad lack n
+  first_bad : (i j : ℕ) → i < n → j < n → bad i j ≡ true → ((r c : ℕ) → r < i → c < n → bad r c ≡ false) → ((c : ℕ) → c < j → bad i c ≡ false)
       → square m bad lack n ≡ told m (cell i j) (lack i j) → Squared m bad lack n
 
 pub squared : (m : ℕ) (bad : ℕ → ℕ → Bool) (lack : ℕ → ℕ → ℕ) (n : ℕ) → Squared m bad lack n
 squared m bad lack n = go (first (λ i. found (bad i) n) n) (first_is (λ i. found (bad i) n) n)
   where
     go : (r : ℕ) → First (λ i. found (bad i) n) n r → Squared m bad lack n
-    go r (none e h) = allRight (λ i j l g. found_not (bad i) n (h i l) j g) (square_rows m bad lack n h)
+    go r (none e h) = all_right (λ i j l g. found_not (bad i) n (h i l) j g) (square_rows m bad lack n h)
     go r (some l e h) = row (first (bad r) n) (first_is (bad r) n) refl
       where
         row : (c : ℕ) → First (bad r) n c → c ≡ first (bad r) n → Squared m bad lack n
         row c (none f g) q = absurd (omega (arith, (found_first (bad r) n e).0))
-        row c (some g f k) q = firstBad r c l g f (λ i j x y. found_not (bad i) n (h i x) j y) k (sym (square_hit m bad lack n r c h q g l))
+        row c (some g f k) q = first_bad r c l g f (λ i j x y. found_not (bad i) n (h i x) j y) k (sym (square_hit m bad lack n r c h q g l))
 
 -- of each cell of the square; what the answer says of the cell is so, and nothing else is
 pub square_gives : (m n : ℕ) (P Short : ℕ → ℕ → Type 0) (bad : ℕ → ℕ → Bool) (lack : ℕ → ℕ → ℕ) → 0 < m → n ≤ 128
@@ -68,8 +68,8 @@ unfolding Gives
 square_gives m n P Short bad lack pos few t says = go (squared m bad lack n)
   where
     go : Squared m bad lack n → Refusal (cells m n P Short) (square m bad lack n) ⊎ (Nowhere (cells m n P Short) × (square m bad lack n ≡ no_fault))
-    go (allRight h e) = inr (λ p b. (t b.0 b.1 b.2 b.3).fails (h b.0 b.1 b.2 b.3) b.5, e)
-    go (firstBad i j l g f rows row e) =
+    go (all_right h e) = inr (λ p b. (t b.0 b.1 b.2 b.3).fails (h b.0 b.1 b.2 b.3) b.5, e)
+    go (first_bad i j l g f rows row e) =
         rw e
         (inl (record {
           some = pos;

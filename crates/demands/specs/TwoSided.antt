@@ -42,39 +42,39 @@ module _ (net : Net) (n : ℕ) where
   walk_side s split {i} l (step {j} {k} {odd} w h c) = split j k (walk_below l w) h c ∙ ap not (walk_side s split l w) ∙ flip_not odd (s i)
 
   -- what the figure for the two-sided order bounds
-  figure-width : (k : ℕ) → k < n → net.width k ≤ two_sided_highest net n
+  figure_width : (k : ℕ) → k < n → net.width k ≤ two_sided_highest net n
   unfolding two_sided_highest
-  figure-width k l = omega (arith, largest_ge net.width n k l)
+  figure_width k l = omega (arith, largest_ge net.width n k l)
 
-  figure-pair : (i j : ℕ) → i < n → j < n → Conflict net i j → net.width i + net.guard i j + net.width j ≤ two_sided_highest net n
+  figure_pair : (i j : ℕ) → i < n → j < n → Conflict net i j → net.width i + net.guard i j + net.width j ≤ two_sided_highest net n
   unfolding two_sided_highest
-  figure-pair i j h l c =
-      omega (arith, across-is i j c, largest_ge (across_conflict net i) n j l, largest_ge (λ i. largest (across_conflict net i) n) n i h)
+  figure_pair i j h l c =
+      omega (arith, across_is i j c, largest_ge (across_conflict net i) n j l, largest_ge (λ i. largest (across_conflict net i) n) n i h)
     where
-      across-is : (i j : ℕ) → Conflict net i j → across_conflict net i j ≡ net.width i + net.guard i j + net.width j
-      across-is i j c = unfold across_conflict in (rw (lt-ltb (net.guard i j) 255 c) refl)
+      across_is : (i j : ℕ) → Conflict net i j → across_conflict net i j ≡ net.width i + net.guard i j + net.width j
+      across_is i j c = unfold across_conflict in (rw (lt-ltb (net.guard i j) 255 c) refl)
 
-  across-le : (i j x : ℕ) → (Conflict net i j → net.width i + net.guard i j + net.width j ≤ x) → across_conflict net i j ≤ x
+  across_le : (i j x : ℕ) → (Conflict net i j → net.width i + net.guard i j + net.width j ≤ x) → across_conflict net i j ≤ x
   unfolding across_conflict
-  across-le i j x h = go (in_conflict net i j) refl
+  across_le i j x h = go (in_conflict net i j) refl
     where
       go : (b : Bool) → in_conflict net i j ≡ b → cond b (net.width i + net.guard i j + net.width j) 0 ≤ x
       go true e = h (ltb-true _ _ e)
       go false e = omega arith
 
-  figure-le : (x : ℕ) → ((k : ℕ) → k < n → net.width k ≤ x) → ((i j : ℕ) → i < n → j < n → Conflict net i j → net.width i + net.guard i j + net.width j ≤ x) → two_sided_highest net n ≤ x
+  figure_le : (x : ℕ) → ((k : ℕ) → k < n → net.width k ≤ x) → ((i j : ℕ) → i < n → j < n → Conflict net i j → net.width i + net.guard i j + net.width j ≤ x) → two_sided_highest net n ≤ x
   unfolding two_sided_highest
-  figure-le x f g =
+  figure_le x f g =
       omega (
         arith,
         largest_le net.width n x f,
-        largest_le (λ i. largest (across_conflict net i) n) n x (λ i h. largest_le (across_conflict net i) n x (λ j l. across-le i j x (g i j h l))),
+        largest_le (λ i. largest (across_conflict net i) n) n x (λ i h. largest_le (across_conflict net i) n x (λ j l. across_le i j x (g i j h l))),
       )
 
   module _ (good : Good net n) where
     -- no valid plan's highest slot is below the figure
     pub figure_holds : (q : ℕ → ℕ) → Valid net n q → two_sided_highest net n ≤ highest net q n
-    figure_holds q v = figure-le (highest net q n)
+    figure_holds q v = figure_le (highest net q n)
         (λ k l. omega (arith, highest_ge net q n k l, v.lows k l, good.above k l))
         (λ i j h l c. go i j h l (either net n good v i j h l c))
       where
@@ -97,9 +97,9 @@ module _ (net : Net) (n : ℕ) where
       p : ℕ → ℕ
       p = at (packed (lowest net) o t n)
 
-      packed-p : Packs (lowest net) o p n
+      packed_p : Packs (lowest net) o p n
       unfolding p
-      packed-p = packs net n o ord t space (lowest net) (lowest_local net)
+      packed_p = packs net n o ord t space (lowest net) (lowest_local net)
 
       -- an earlier conflicting path is on the low side, and this one on the high side
       earlier : (i m : ℕ) → i < m → m < n → Conflict net (o i) (o m) → s (o i) ≡ false
@@ -112,18 +112,18 @@ module _ (net : Net) (n : ℕ) where
       later : (i m : ℕ) → i < m → m < n → Conflict net (o i) (o m) → s (o m) ≡ true
       later i m h l c = split (o i) (o m) (ord.inside i (omega arith)) (ord.inside m l) c ∙ ap not (earlier i m h l c)
 
-      low-one : (m : ℕ) → m < n → s (o m) ≡ false → p (o m) ≤ 1
-      low-one m l e = omega (arith, packed-p m l, lowest_le net p o m (o m) 1 (omega (arith, ones (o m) (ord.inside m l))) (λ i h c. absurd (false≢true (sym e ∙ later i m h l c))))
+      low_one : (m : ℕ) → m < n → s (o m) ≡ false → p (o m) ≤ 1
+      low_one m l e = omega (arith, packed_p m l, lowest_le net p o m (o m) 1 (omega (arith, ones (o m) (ord.inside m l))) (λ i h c. absurd (false≢true (sym e ∙ later i m h l c))))
 
       ends : (m : ℕ) → m < n → end net (o m) (p (o m)) ≤ two_sided_highest net n
       ends m l =
-          let w = figure-width (o m) (ord.inside m l) in
+          let w = figure_width (o m) (ord.inside m l) in
           omega (
             arith,
-            packed-p m l,
+            packed_p m l,
             w,
             lowest_le net p o m (o m) (two_sided_highest net n + 1 - net.width (o m)) (omega (arith, w, ones (o m) (ord.inside m l)))
-                (λ i h c. omega (arith, low-one i (omega arith) (earlier i m h l c), figure-pair (o i) (o m) (ord.inside i (omega arith)) (ord.inside m l) c)),
+                (λ i h c. omega (arith, low_one i (omega arith) (earlier i m h l c), figure_pair (o i) (o m) (ord.inside i (omega arith)) (ord.inside m l) c)),
           )
 
       -- the two-sided order's highest slot, and that none is lower

@@ -31,7 +31,7 @@ use Rattle.table_laws.specs.Scans.{sum_same}
 use Rattle.table_laws.specs.Orders.{own_order}
 use Rattle.table_laws.specs.Limits.{network_within, order_once, once_order}
 use Rattle.plan_laws.specs.Answers.{Packable, improving_packable, packable_improves}
-use Rattle.plan_laws.specs.Runs.{runAfter, run_kept}
+use Rattle.plan_laws.specs.Runs.{run_after, run_kept}
 use Rattle.demands.specs.OnImproving.{improving_highest, improving_kept}
 use Rattle.demands.specs.Met.{Between}
 use Rattle.demands.specs.OnFlooring.{stacked, flooring_met}
@@ -141,31 +141,31 @@ better_refusing program meets nothing =
 -- (2) A packing with one constant answer wherever it answers: one highest slot for all, or one table of
 -- starts for all
 module _ (program : ℕ × Lent × Table × Table → Left Packed Table) (meets : Meets program packing_of) where
-  abbrev givenOrder : Table → ℕ × Lent × Table × Table
-  givenOrder order = (3, net_t, order, three 0 0 0)
+  abbrev given_order : Table → ℕ × Lent × Table × Table
+  given_order order = (3, net_t, order, three 0 0 0)
 
-  packs : (order : Table) → (packing 3 net_t order (three 0 0 0)).answer.number ≡ 0 → (program (givenOrder order)).answer.number ≡ 0
-  packs order z = ap (λ (r : Left Packed Table). r.answer.number) (meets (givenOrder order)) ∙ z
+  packs : (order : Table) → (packing 3 net_t order (three 0 0 0)).answer.number ≡ 0 → (program (given_order order)).answer.number ≡ 0
+  packs order z = ap (λ (r : Left Packed Table). r.answer.number) (meets (given_order order)) ∙ z
 
   pub constant_highest_unfit : (constant : ℕ) → ((g : ℕ × Lent × Table × Table) → (program g).answer.number ≡ 0 → (program g).answer.highest ≡ constant) → ⊥
   constant_highest_unfit constant same =
       omega (arith, high (three 0 1 2) (entry 1 answers), high (three 1 0 2) (entry 11 answers), entry 0 differs, entry 1 differs)
     where
       high : (order : Table) → (packing 3 net_t order (three 0 0 0)).answer.number ≡ 0 → (packing 3 net_t order (three 0 0 0)).answer.highest ≡ constant
-      high order z = sym (ap (λ (r : Left Packed Table). r.answer.highest) (meets (givenOrder order))) ∙ same (givenOrder order) (packs order z)
+      high order z = sym (ap (λ (r : Left Packed Table). r.answer.highest) (meets (given_order order))) ∙ same (given_order order) (packs order z)
 
   pub constant_starts_unfit : (constant : Table) → ((g : ℕ × Lent × Table × Table) → (program g).answer.number ≡ 0 → (program g).tables ≡ constant) → ⊥
   constant_starts_unfit constant same =
       omega (arith, ap (λ (t : Table). at t 0) (start (three 0 1 2) (entry 1 answers) ∙ sym (start (three 1 0 2) (entry 11 answers))), entry 2 differs, entry 3 differs)
     where
       start : (order : Table) → (packing 3 net_t order (three 0 0 0)).answer.number ≡ 0 → (packing 3 net_t order (three 0 0 0)).tables ≡ constant
-      start order z = sym (ap (λ (r : Left Packed Table). r.tables) (meets (givenOrder order))) ∙ same (givenOrder order) (packs order z)
+      start order z = sym (ap (λ (r : Left Packed Table). r.tables) (meets (given_order order))) ∙ same (given_order order) (packs order z)
 
 -- (3) A pressing that hands its plan back untouched wherever it answers
 pub untouched_unfit : (program : ℕ × Lent × Table → Left Pressed Table) → Meets program pressing_of
     → ((n : ℕ) (lent : Lent) (starts : Table) → (program (n, lent, starts)).answer.number ≡ 0 → (program (n, lent, starts)).tables ≡ starts) → ⊥
 untouched_unfit program meets untouched =
-    omega (arith, ap (λ (t : Table). at t 0) back, entry 4 differs, first-start)
+    omega (arith, ap (λ (t : Table). at t 0) back, entry 4 differs, first_start)
   where
     pressed : program (3, net_t, three 20 10 30) ≡ pressing 3 net_t (three 20 10 30)
     pressed = meets (3, net_t, three 20 10 30)
@@ -175,8 +175,8 @@ untouched_unfit program meets untouched =
         sym (ap (λ (r : Left Pressed Table). r.tables) pressed)
         ∙ untouched 3 net_t (three 20 10 30) (ap (λ (r : Left Pressed Table). r.answer.number) pressed ∙ entry 2 answers)
 
-    first-start : at (three 20 10 30) 0 ≡ 20
-    first-start = unfold three in refl
+    first_start : at (three 20 10 30) 0 ≡ 20
+    first_start = unfold three in refl
 
 -- (4) An improver that works in round one and idles after, and refuses 10,001 rounds rightly: wherever it
 -- answers, more rounds leave what one round left
@@ -205,7 +205,7 @@ pub invented_unfit : (program : ℕ × Lent × Table × Table × ℕ × ℕ → 
     → (program (n, lent, order, starts, seed, rounds)).answer.kept
     ≢ sum (λ i. cond (ltb (program (n, lent, order, starts, seed, suc i)).answer.highest (program (n, lent, order, starts, seed, i)).answer.highest) 1 0) rounds
     → ⊥
-invented_unfit program meets n lent order starts seed rounds done invented = invented (kept-is ∙ sums rounds (omega arith))
+invented_unfit program meets n lent order starts seed rounds done invented = invented (kept_is ∙ sums rounds (omega arith))
   where
     accepted : (improving n lent order starts seed rounds).answer.number ≡ 0
     accepted = sym (ap (λ (r : Left Planned (Table × Table)). r.answer.number) (meets (n, lent, order, starts, seed, rounds))) ∙ done
@@ -214,19 +214,19 @@ invented_unfit program meets n lent order starts seed rounds done invented = inv
     packable = improving_packable n lent order starts seed rounds accepted
 
     -- after i rounds the program's highest slot is that of the defined rounds
-    after : (i : ℕ) → i ≤ rounds → (program (n, lent, order, starts, seed, i)).answer.highest ≡ (runAfter n lent order starts seed i).highest
+    after : (i : ℕ) → i ≤ rounds → (program (n, lent, order, starts, seed, i)).answer.highest ≡ (run_after n lent order starts seed i).highest
     after i l =
         ap (λ (r : Left Planned (Table × Table)). r.answer.highest) (meets (n, lent, order, starts, seed, i))
         ∙ improving_highest n lent order starts seed i (packable_improves n lent order starts seed i packable.0 (omega (arith, packable.1)))
 
-    kept-is : (program (n, lent, order, starts, seed, rounds)).answer.kept
-        ≡ sum (λ i. cond (ltb (runAfter n lent order starts seed (suc i)).highest (runAfter n lent order starts seed i).highest) 1 0) rounds
-    kept-is =
+    kept_is : (program (n, lent, order, starts, seed, rounds)).answer.kept
+        ≡ sum (λ i. cond (ltb (run_after n lent order starts seed (suc i)).highest (run_after n lent order starts seed i).highest) 1 0) rounds
+    kept_is =
         ap (λ (r : Left Planned (Table × Table)). r.answer.kept) (meets (n, lent, order, starts, seed, rounds))
         ∙ improving_kept n lent order starts seed rounds accepted ∙ run_kept n lent order starts seed packable.0 rounds
 
     sums : (k : ℕ) → k ≤ rounds
-        → sum (λ i. cond (ltb (runAfter n lent order starts seed (suc i)).highest (runAfter n lent order starts seed i).highest) 1 0) k
+        → sum (λ i. cond (ltb (run_after n lent order starts seed (suc i)).highest (run_after n lent order starts seed i).highest) 1 0) k
         ≡ sum (λ i. cond (ltb (program (n, lent, order, starts, seed, suc i)).answer.highest (program (n, lent, order, starts, seed, i)).answer.highest) 1 0) k
     sums k l = sum_same _ _ k (λ i g. rw (after (suc i) (omega arith), after i (omega arith)))
 

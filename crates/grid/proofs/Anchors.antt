@@ -41,12 +41,12 @@ module _ (u : ℕ) (l : u < 200000) where
   small : to_z w32 u ≡ pos u
   small = to_z_pos w32 (omega arith)
 
-  lower-fits : (t : Bool) → ltb u 100000 ≡ t → SFits w32 (cond t (negsuc (100000 - suc u)) (pos (u - 100000)))
-  lower-fits true e = record { sfits = omega arith }
-  lower-fits false e = record { sfits = omega arith }
+  lower_fits : (t : Bool) → ltb u 100000 ≡ t → SFits w32 (cond t (negsuc (100000 - suc u)) (pos (u - 100000)))
+  lower_fits true e = record { sfits = omega arith }
+  lower_fits false e = record { sfits = omega arith }
 
   fits : SFits w32 (lowered u)
-  fits = lower-fits (ltb u 100000) refl
+  fits = lower_fits (ltb u 100000) refl
 
   pub lowered_fits : SFits w32 (to_z w32 u +ℤ negsuc 99999)
   lowered_fits = subst (SFits w32) (ap (λ (z : ℤ). z +ℤ negsuc 99999) (sym small)) fits

@@ -148,8 +148,8 @@ module _ (holds : ℕ → Bool) (file : ℕ → ℕ) (n b j : ℕ) where
   pub search_first : Next file n b 0 j → Searching holds file n b j
   search_first f = record { before = λ i g h e. absurd (f.skip i (omega arith) g h e); here = f.hit }
 
-  search-more : (r : ℕ) → Searching holds file n b j → holds j ≡ false → Next file n b (j + 1) r → Searching holds file n b r
-  search-more r s e f = record { before = λ i g h q. go i g h q (dec_lt i j) (ℕ_discrete i j); here = f.hit }
+  search_more : (r : ℕ) → Searching holds file n b j → holds j ≡ false → Next file n b (j + 1) r → Searching holds file n b r
+  search_more r s e f = record { before = λ i g h q. go i g h q (dec_lt i j) (ℕ_discrete i j); here = f.hit }
     where
       go : (i : ℕ) → i < r → i < n → Stands (file i) b → Dec (i < j) → Dec (i ≡ j) → holds i ≡ false
       go i g h q (yes x) d = s.before i x h q
@@ -162,7 +162,7 @@ module _ (holds : ℕ → Bool) (file : ℕ → ℕ) (n b j : ℕ) where
   search_step heads owns ups r f s l e q = go (ℕ_discrete (file j) b)
     where
       moved : (x : ℕ) → x ≡ b → Next file n x (j + 1) r → Searching holds file n b r × (j < r)
-      moved x y h = (search-more r s e (subst (λ z. Next file n z (j + 1) r) y h), omega (arith, h.up))
+      moved x y h = (search_more r s e (subst (λ z. Next file n z (j + 1) r) y h), omega (arith, h.up))
 
       other : file j ≢ b → Stands (file j) b → above (file j) ≡ b
       other ne (inl x) = absurd (ne x)
@@ -213,8 +213,8 @@ module _ (n : ℕ) (lent : Lent) (starts : List ℕ) (k : ℕ) (w : Network n le
   abbrev holds : ℕ → Bool
   holds = holds_up net (at starts) k
 
-  held-file : (i : ℕ) → HoldsUp net (at starts) n k i → Stands (file i) (file_at (at starts k))
-  held-file i h =
+  held_file : (i : ℕ) → HoldsUp net (at starts) n k i → Stands (file i) (file_at (at starts k))
+  held_file i h =
       ends_near (at starts k) (at starts i + at lent.widths i) (at lent.guards (cell i k)) (omega (arith, h.meets, (w.width i h.path).0))
       ((network_bounds n lent w).near i k h.path l h.conflict)
 
@@ -222,15 +222,15 @@ module _ (n : ℕ) (lent : Lent) (starts : List ℕ) (k : ℕ) (w : Network n le
   unfolding link
   link_found r f = go (dec_lt r n)
     where
-      not-held : (i : ℕ) → i < r → (b : Bool) → holds i ≡ b → holds i ≡ false
-      not-held i g false e = e
-      not-held i g true e = f.before i g (held-file i (holds_parts net (at starts) k i n (omega (arith, f.within)) e))
+      not_held : (i : ℕ) → i < r → (b : Bool) → holds i ≡ b → holds i ≡ false
+      not_held i g false e = e
+      not_held i g true e = f.before i g (held_file i (holds_parts net (at starts) k i n (omega (arith, f.within)) e))
 
       go : Dec (r < n) → r ≡ first holds n
-      go (yes x) = sym (first_at holds n r (λ i g. not-held i g (holds i) refl) (f.found x) x)
+      go (yes x) = sym (first_at holds n r (λ i g. not_held i g (holds i) refl) (f.found x) x)
       go (no x) =
           let q : r ≡ n = omega (arith, f.within) in
-          q ∙ sym (first_none holds n (λ i g. not-held i (omega arith) (holds i) refl))
+          q ∙ sym (first_none holds n (λ i g. not_held i (omega arith) (holds i) refl))
 
 -- the two ways out of the test of a pair
 pub meets_free : (g x t : ℕ) → 255 ≤ g → false ≡ (ltb g 255 && eqb x t)

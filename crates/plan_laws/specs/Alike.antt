@@ -30,14 +30,14 @@ module _ (n : ℕ) (few : n ≤ 128) (guards mark : List ℕ) (m : Mirrored n gu
   unfolding same_mark
   same_of i j l g e = rw (q, lt-ltb i j l, lt-ltb (at guards (cell i j)) 255 g, eq-eqb (at mark i) (at mark j) e)
 
-  pair-at : (i j : ℕ) → i < n → j < n → same_mark (net_of lent) (at mark) i j ≡ true → found_pair (same_mark (net_of lent) (at mark)) n ≡ true
+  pair_at : (i j : ℕ) → i < n → j < n → same_mark (net_of lent) (at mark) i j ≡ true → found_pair (same_mark (net_of lent) (at mark)) n ≡ true
   unfolding found_pair
-  pair-at i j l h e = found_at (λ i. found (same_mark (net_of lent) (at mark) i) n) n i l (found_at (same_mark (net_of lent) (at mark) i) n j h e)
+  pair_at i j l h e = found_at (λ i. found (same_mark (net_of lent) (at mark) i) n) n i l (found_at (same_mark (net_of lent) (at mark) i) n j h e)
 
   -- a pair found in a row is a pair
-  row-pair : (i j : ℕ) → i < n → j < 128 → alike guards mark i j ≡ true → found_pair (same_mark (net_of lent) (at mark)) n ≡ true
+  row_pair : (i j : ℕ) → i < n → j < 128 → alike guards mark i j ≡ true → found_pair (same_mark (net_of lent) (at mark)) n ≡ true
   unfolding alike
-  row-pair i j l h e = go (dec_lt j n) (dec_lt i j) (dec_lt j i)
+  row_pair i j l h e = go (dec_lt j n) (dec_lt i j) (dec_lt j i)
     where
       g : at guards (cell i j) < 255
       g = ltb-true (at guards (cell i j)) 255 (and_both (ltb (at guards (cell i j)) 255) (eqb (at mark i) (at mark j)) e).0
@@ -47,8 +47,8 @@ module _ (n : ℕ) (few : n ≤ 128) (guards mark : List ℕ) (m : Mirrored n gu
 
       go : Dec (j < n) → Dec (i < j) → Dec (j < i) → found_pair (same_mark (net_of lent) (at mark)) n ≡ true
       go (no x) a b = absurd (omega (arith, s, w.none j (omega arith) h, w.some i l))
-      go (yes x) (yes a) b = pair-at i j l x (same_of i j a g s)
-      go (yes x) (no a) (yes b) = pair-at j i x l (same_of j i b (omega (arith, g, m.other j i x l)) (sym s))
+      go (yes x) (yes a) b = pair_at i j l x (same_of i j a g s)
+      go (yes x) (no a) (yes b) = pair_at j i x l (same_of j i b (omega (arith, g, m.other j i x l)) (sym s))
       go (yes x) (no a) (no b) = let z : i ≡ j = omega arith in absurd (omega (arith, g, subst (λ k. at guards (cell i k) ≡ 255) z (m.own i l)))
 
   pub rows_alike : found (λ i. found (alike guards mark i) 128) n ≡ found_pair (same_mark (net_of lent) (at mark)) n
@@ -60,7 +60,7 @@ module _ (n : ℕ) (few : n ≤ 128) (guards mark : List ℕ) (m : Mirrored n gu
           let r = found_first (λ i. found (alike guards mark i) 128) n e in
           let i = first (λ i. found (alike guards mark i) 128) n in
           let s = found_first (alike guards mark i) 128 r.1 in
-          sym (row-pair i (first (alike guards mark i) 128) r.0 s.0 s.1)
+          sym (row_pair i (first (alike guards mark i) 128) r.0 s.0 s.1)
       go false e =
           sym (pair_none (same_mark (net_of lent) (at mark)) n
           (λ i j l h. rw (q, found_not (alike guards mark i) 128 (found_not (λ i. found (alike guards mark i) 128) n e i l) j (omega arith)) (and_false (ltb i j))))

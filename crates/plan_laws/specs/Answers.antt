@@ -186,9 +186,9 @@ module _ (n : ℕ) (lent : Lent) (order : List ℕ) where
   net = net_of lent
 
   -- the tests before 9, and none of them answers 9
-  sides-clear : (x : ℕ) → (x ≡ 0) ⊎ (x ≡ 9) → (two_sides_fault n lent order).number ≡ x → Sidable n lent order × ((sides_fault n net).number ≡ x)
+  sides_clear : (x : ℕ) → (x ≡ 0) ⊎ (x ≡ 9) → (two_sides_fault n lent order).number ≡ x → Sidable n lent order × ((sides_fault n net).number ≡ x)
   unfolding two_sides_fault
-  sides-clear x h z =
+  sides_clear x h z =
       let a = or_past _ _ x (never_lent n lent (size_fault order 128) x (never_size order 128 x (λ e. two h e)) (below h)) z in
       let w = lent_clear n lent (size_fault order 128) a.0 in
       (record { network = w.0; order_size = size_clear order 128 w.1 }, a.1)
@@ -205,13 +205,13 @@ module _ (n : ℕ) (lent : Lent) (order : List ℕ) where
   unfolding two_sides_fault
   clear_sides p = or_second _ _ (clear_lent n lent (size_fault order 128) p.network (sized order 128 p.order_size))
 
-  siding-number : (siding n lent order).answer.number ≡ (two_sides_fault n lent order).number
+  siding_number : (siding n lent order).answer.number ≡ (two_sides_fault n lent order).number
   unfolding siding
-  siding-number = unless_number (λ (r : Left Sided (List ℕ)). r.answer.number) (two_sides_fault n lent order) _ _ refl refl
+  siding_number = unless_number (λ (r : Left Sided (List ℕ)). r.answer.number) (two_sides_fault n lent order) _ _ refl refl
 
   pub siding_done : (siding n lent order).answer.number ≡ 0 → Sidable n lent order × (has_sides net n ≡ true)
   siding_done z =
-      let a = sides-clear 0 (inl refl) (sym siding-number ∙ z) in
+      let a = sides_clear 0 (inl refl) (sym siding_number ∙ z) in
       (a.0, has a.1)
     where
       has : (sides_fault n net).number ≡ 0 → has_sides net n ≡ true
@@ -219,7 +219,7 @@ module _ (n : ℕ) (lent : Lent) (order : List ℕ) where
 
   pub siding_nine : (siding n lent order).answer.number ≡ 9 → Sidable n lent order × (has_sides net n ≡ false)
   siding_nine z =
-      let a = sides-clear 9 (inr refl) (sym siding-number ∙ z) in
+      let a = sides_clear 9 (inr refl) (sym siding_number ∙ z) in
       (a.0, lacks (has_sides net n) refl a.1)
     where
       lacks : (b : Bool) → has_sides net n ≡ b → (sides_fault n net).number ≡ 9 → has_sides net n ≡ false
@@ -228,7 +228,7 @@ module _ (n : ℕ) (lent : Lent) (order : List ℕ) where
 
   pub sidable_number : Sidable n lent order → (siding n lent order).answer.number ≡ cond (has_sides net n) 0 9
   unfolding sides_fault
-  sidable_number p = siding-number ∙ ap (λ (x : Fault). x.number) (clear_sides p) ∙ go (has_sides net n)
+  sidable_number p = siding_number ∙ ap (λ (x : Fault). x.number) (clear_sides p) ∙ go (has_sides net n)
     where
       go : (b : Bool) → (refuse_if (not b) 9 0).number ≡ cond b 0 9
       go true = ap (λ (x : Fault). x.number) (refuse_not false 9 0 refl)
@@ -237,7 +237,7 @@ module _ (n : ℕ) (lent : Lent) (order : List ℕ) where
   pub sidable_siding : Sidable n lent order → has_sides net n ≡ true
       → siding n lent order ≡ left (record { number = 0; place = 0; low = low_side n (is_high net n) }) (two_sided n (is_high net n) order)
   unfolding siding
-  sidable_siding p e = unless_done (two_sides_fault n lent order) _ _ (sym siding-number ∙ sidable_number p ∙ rw e)
+  sidable_siding p e = unless_done (two_sides_fault n lent order) _ _ (sym siding_number ∙ sidable_number p ∙ rw e)
 
 -- improving and planning
 module _ (n : ℕ) (lent : Lent) (order starts : List ℕ) (seed rounds : ℕ) where

@@ -33,19 +33,19 @@ module _ (net : Net) (plan : ℕ → ℕ) (i j : ℕ) where
       go (no x) = unfold pair_short lack in (rw (short_below net plan i j l (omega arith), le-ltb (plan j) (plan i) (omega arith)))
 
   -- it tells whether they are too close
-  close-is : too_close net plan i j ≡ (ltb i j && not (eqb (lack net plan i j) 0))
+  close_is : too_close net plan i j ≡ (ltb i j && not (eqb (lack net plan i j) 0))
   unfolding too_close lack
-  close-is = go (in_conflict net i j)
+  close_is = go (in_conflict net i j)
     where
       go : (b : Bool) → (ltb i j && (b && not (eqb (short net plan i j) 0))) ≡ (ltb i j && not (eqb (cond b (short net plan i j) 0) 0))
       go true = refl
       go false = refl
 
   pub lack_none : i < j → lack net plan i j ≡ 0 → too_close net plan i j ≡ false
-  lack_none l z = close-is ∙ rw (lt-ltb i j l, eq-eqb (lack net plan i j) 0 z)
+  lack_none l z = close_is ∙ rw (lt-ltb i j l, eq-eqb (lack net plan i j) 0 z)
 
   pub lack_some : i < j → lack net plan i j ≢ 0 → too_close net plan i j ≡ true
-  lack_some l h = close-is ∙ rw (lt-ltb i j l, ne_eqb (lack net plan i j) 0 h)
+  lack_some l h = close_is ∙ rw (lt-ltb i j l, ne_eqb (lack net plan i j) 0 h)
 
   -- where they are, i<j, in conflict, and it is the number that 8 says
   pub close_parts : too_close net plan i j ≡ true → (i < j) × Conflict net i j × (short net plan i j ≢ 0)

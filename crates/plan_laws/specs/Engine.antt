@@ -101,9 +101,9 @@ module _ (n : ℕ) (lent : Lent) (limits : Network n lent) (o : ℕ → ℕ) (or
         mine : reach net (o p) j (at after (o p)) ≡ reach net i j s
         mine = rw (← ei, at_new) refl
 
-    raised-top : (w top : ℕ) → w ≡ at lent.widths i → top ≡ largest (λ k. end net (o k) (at starts (o k))) p → max top (s + w - 1) ≡ largest (λ k. end net (o k) (at after (o k))) (suc p)
+    raised_top : (w top : ℕ) → w ≡ at lent.widths i → top ≡ largest (λ k. end net (o k) (at starts (o k))) p → max top (s + w - 1) ≡ largest (λ k. end net (o k) (at after (o k))) (suc p)
     unfolding largest
-    raised-top w top ew et =
+    raised_top w top ew et =
         rw (et, largest_same (λ k. end net (o k) (at starts (o k))) (λ k. end net (o k) (at after (o k))) p (λ k g. ap (λ x. end net (o k) x) (sym (at_old k g))))
         (ap (λ x. max (largest (λ k. end net (o k) (at after (o k))) p) x) (rw (← ei, at_new, ew) refl))
 
@@ -117,7 +117,7 @@ module _ (n : ℕ) (lent : Lent) (limits : Network n lent) (o : ℕ → ℕ) (or
           long = length-set starts i s ∙ t.long;
           wide = u.long ∙ t.wide;
           needs = λ j g. u.done j g ∙ raised_low starts t.long p l i s ei w j (at need j) ew (t.needs j g);
-          tops = et ∙ raised-top starts t.long p l i s ei w top ew t.tops;
+          tops = et ∙ raised_top starts t.long p l i s ei w top ew t.tops;
           written = packed_next (lowest net) o table p starts i s t.written ei (es ∙ t.needs i (inside starts t.long p l i s ei));
         }
 
@@ -145,14 +145,14 @@ module _ (n : ℕ) (lent : Lent) (limits : Network n lent) (o : ℕ → ℕ) (or
 
 -- the starts of an order do not go by the table that it is packed into
 module _ (w : Net) (n : ℕ) (o : ℕ → ℕ) (ord : Order o n n) where
-  packed-low : (t u : List ℕ) → n ≤ length t → n ≤ length u → (i : ℕ) → i < n → at (packed (lowest w) o t n) (o i) ≤ at (packed (lowest w) o u n) (o i)
-  packed-low t u a b =
+  packed_low : (t u : List ℕ) → n ≤ length t → n ≤ length u → (i : ℕ) → i < n → at (packed (lowest w) o t n) (o i) ≤ at (packed (lowest w) o u n) (o i)
+  packed_low t u a b =
       least (lowest w) (lowest_mono w) o (at (packed (lowest w) o t n)) (at (packed (lowest w) o u n)) n (packs w n o ord t a (lowest w) (lowest_local w))
       (λ i l. omega (arith, packs w n o ord u b (lowest w) (lowest_local w) i l))
 
-  packed-same : (t u : List ℕ) → n ≤ length t → n ≤ length u → (k : ℕ) → k < n → at (packed (lowest w) o t n) k ≡ at (packed (lowest w) o u n) k
-  packed-same t u a b =
-      everywhere w n o ord (λ k. at (packed (lowest w) o t n) k ≡ at (packed (lowest w) o u n) k) (λ i l. omega (arith, packed-low t u a b i l, packed-low u t b a i l))
+  packed_same : (t u : List ℕ) → n ≤ length t → n ≤ length u → (k : ℕ) → k < n → at (packed (lowest w) o t n) k ≡ at (packed (lowest w) o u n) k
+  packed_same t u a b =
+      everywhere w n o ord (λ k. at (packed (lowest w) o t n) k ≡ at (packed (lowest w) o u n) k) (λ i l. omega (arith, packed_low t u a b i l, packed_low u t b a i l))
 
   -- nor does the packed table go by what stood below n
   pub packed_over : (t u : List ℕ) → n ≤ length t → KeptFrom n t u → packed (lowest w) o u n ≡ packed (lowest w) o t n
@@ -164,14 +164,14 @@ module _ (w : Net) (n : ℕ) (o : ℕ → ℕ) (ord : Order o n n) where
       alone x k l = packed_other (lowest w) (lowest_local w) o x n k (λ i h e. omega (arith, ord.inside i h))
 
       go : (k : ℕ) → Dec (k < n) → at (packed (lowest w) o u n) k ≡ at (packed (lowest w) o t n) k
-      go k (yes l) = packed-same u t (omega (arith, s.size)) room k l
+      go k (yes l) = packed_same u t (omega (arith, s.size)) room k l
       go k (no l) = alone u k (omega arith) ∙ s.cells k (omega arith) ∙ sym (alone t k (omega arith))
 
   -- nor its height
-  height-any : (t u : List ℕ) → n ≤ length t → n ≤ length u → highest w (at (packed (lowest w) o t n)) n ≡ highest w (at (packed (lowest w) o u n)) n
-  height-any t u a b = highest_same w (at (packed (lowest w) o t n)) (at (packed (lowest w) o u n)) n (packed-same t u a b)
+  height_any : (t u : List ℕ) → n ≤ length t → n ≤ length u → highest w (at (packed (lowest w) o t n)) n ≡ highest w (at (packed (lowest w) o u n)) n
+  height_any t u a b = highest_same w (at (packed (lowest w) o t n)) (at (packed (lowest w) o u n)) n (packed_same t u a b)
 
 pub height_told : (w : Net) (n : ℕ) (order t starts : List ℕ) (r : ℕ) → Order (at order) n n → n ≤ length t → r ≡ highest w (at starts) n → starts ≡ packed (lowest w) (at order) t n
     → (u : List ℕ) → n ≤ length u → r ≡ height w n (lowest w) u order
 unfolding height
-height_told w n order t starts r ord a e f u b = e ∙ ap (λ (x : List ℕ). highest w (at x) n) f ∙ height-any w n (at order) ord t u a b
+height_told w n order t starts r ord a e f u b = e ∙ ap (λ (x : List ℕ). highest w (at x) n) f ∙ height_any w n (at order) ord t u a b

@@ -14,38 +14,38 @@ use Rattle.table_laws.specs.Limits.{order_once}
 -- The greedy order is an order, and each next path's packed start is the least of those left, ties to the
 -- lowest number
 module _ (n : ℕ) (lent : Lent) (order starts : List ℕ) (w : Network n lent) (order_size : length order ≡ 128) where
-  abbrev pub greedyOrder : List ℕ
-  greedyOrder = greedy (lowest (net_of lent)) n starts order n
+  abbrev pub order_of_greedy : List ℕ
+  order_of_greedy = greedy (lowest (net_of lent)) n starts order n
 
   -- the start that path k would get after the first i of the greedy order
-  abbrev pub greedyStart : ℕ → ℕ → ℕ
-  greedyStart i k = start_next (lowest (net_of lent)) starts greedyOrder i k
+  abbrev pub greedy_start : ℕ → ℕ → ℕ
+  greedy_start i k = start_next (lowest (net_of lent)) starts order_of_greedy i k
 
-  greedy-room : n ≤ length order
-  greedy-room = omega (arith, w.few)
+  greedy_room : n ≤ length order
+  greedy_room = omega (arith, w.few)
 
-  pub greedy_order : Once (at greedyOrder) n
-  greedy_order = order_once (at greedyOrder) n (arranged_order (start_next (lowest (net_of lent)) starts) n order greedy-room n (omega arith))
+  pub greedy_order : Once (at order_of_greedy) n
+  greedy_order = order_once (at order_of_greedy) n (arranged_order (start_next (lowest (net_of lent)) starts) n order greedy_room n (omega arith))
 
   -- the order so far is the order's beginning, so it gives the same starts
-  pub same_start : (i k : ℕ) → i ≤ n → start_next (lowest (net_of lent)) starts (greedy (lowest (net_of lent)) n starts order i) i k ≡ greedyStart i k
+  pub same_start : (i k : ℕ) → i ≤ n → start_next (lowest (net_of lent)) starts (greedy (lowest (net_of lent)) n starts order i) i k ≡ greedy_start i k
   same_start i k l =
       let rule = lowest (net_of lent) in
       let loc = lowest_local (net_of lent) in
-      let begins : (h : ℕ) → h < i → at (greedy rule n starts order i) h ≡ at greedyOrder h = λ h g. arranged_begins (start_next rule starts) n order greedy-room n i h g l (omega arith) in
-      rw (packed_local rule loc (at (greedy rule n starts order i)) (at greedyOrder) starts i begins)
-      (loc (at (packed rule (at greedyOrder) starts i)) (at (packed rule (at greedyOrder) starts i)) (at (greedy rule n starts order i)) (at greedyOrder) i k begins (λ h g. refl))
+      let begins : (h : ℕ) → h < i → at (greedy rule n starts order i) h ≡ at order_of_greedy h = λ h g. arranged_begins (start_next rule starts) n order greedy_room n i h g l (omega arith) in
+      rw (packed_local rule loc (at (greedy rule n starts order i)) (at order_of_greedy) starts i begins)
+      (loc (at (packed rule (at order_of_greedy) starts i)) (at (packed rule (at order_of_greedy) starts i)) (at (greedy rule n starts order i)) (at order_of_greedy) i k begins (λ h g. refl))
 
-  pub greedy_least : (i k : ℕ) → i < n → k < n → ((h : ℕ) → h < i → at greedyOrder h ≢ k) → greedyStart i (at greedyOrder i) ≤ greedyStart i k
+  pub greedy_least : (i k : ℕ) → i < n → k < n → ((h : ℕ) → h < i → at order_of_greedy h ≢ k) → greedy_start i (at order_of_greedy i) ≤ greedy_start i k
   greedy_least i k l g left =
       omega (
         arith,
-        same_start i (at greedyOrder i) (omega arith),
+        same_start i (at order_of_greedy i) (omega arith),
         same_start i k (omega arith),
-        arranged_least (start_next (lowest (net_of lent)) starts) n order greedy-room n i k l (omega arith) g left,
+        arranged_least (start_next (lowest (net_of lent)) starts) n order greedy_room n i k l (omega arith) g left,
       )
 
-  pub greedy_first : (i k : ℕ) → i < n → k < n → ((h : ℕ) → h < i → at greedyOrder h ≢ k) → greedyStart i k ≤ greedyStart i (at greedyOrder i) → at greedyOrder i ≤ k
+  pub greedy_first : (i k : ℕ) → i < n → k < n → ((h : ℕ) → h < i → at order_of_greedy h ≢ k) → greedy_start i k ≤ greedy_start i (at order_of_greedy i) → at order_of_greedy i ≤ k
   greedy_first i k l g left h =
-      arranged_first (start_next (lowest (net_of lent)) starts) n order greedy-room n i k l (omega arith) g left
-      (omega (arith, same_start i (at greedyOrder i) (omega arith), same_start i k (omega arith)))
+      arranged_first (start_next (lowest (net_of lent)) starts) n order greedy_room n i k l (omega arith) g left
+      (omega (arith, same_start i (at order_of_greedy i) (omega arith), same_start i k (omega arith)))

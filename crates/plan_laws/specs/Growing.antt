@@ -46,18 +46,18 @@ module _ (n : ℕ) (lent : Lent) (before table : List ℕ) (w : Network n lent) 
   unfolding o
   ord = arranged_order key n before room n (omega arith)
 
-  starts-long : (m : ℕ) → length (starts m) ≡ 128
+  starts_long : (m : ℕ) → length (starts m) ≡ 128
   unfolding starts
-  starts-long m = packed_length (lowest net) (lowest_local net) o table m ∙ space
+  starts_long m = packed_length (lowest net) (lowest_local net) o table m ∙ space
 
   -- the keys are the lowest starts after the first m of the whole order
-  key-is : (order need : List ℕ) (m k : ℕ) → Growing n lent before table order need m → key order m k ≡ lowest net (at (starts m)) o m k
+  key_is : (order need : List ℕ) (m k : ℕ) → Growing n lent before table order need m → key order m k ≡ lowest net (at (starts m)) o m k
   unfolding starts o
-  key-is order need m k g = ap (λ (s : List ℕ). key s m k) g.made ∙ same_start n lent before table w full m k g.here
+  key_is order need m k g = ap (λ (s : List ℕ). key s m k) g.made ∙ same_start n lent before table w full m k g.here
 
-  key-bound : (order need : List ℕ) (m k : ℕ) → Growing n lent before table order need m → k < n → key order m k ≤ 1 + 96 * m
+  key_bound : (order need : List ℕ) (m k : ℕ) → Growing n lent before table order need m → k < n → key order m k ≤ 1 + 96 * m
   unfolding starts
-  key-bound order need m k g l = omega (arith, key-is order need m k g, low_bound n lent w o ord table space m k g.here l)
+  key_bound order need m k g l = omega (arith, key_is order need m k g, low_bound n lent w o ord table space m k g.here l)
 
   pub growing_first : (need : List ℕ) → ((k : ℕ) → k < n → at need k ≡ 1) → Growing n lent before table before need 0
   unfolding packed lowest
@@ -65,35 +65,35 @@ module _ (n : ℕ) (lent : Lent) (before table : List ℕ) (w : Network n lent) 
 
   module _ (order need : List ℕ) (m : ℕ) (g : Growing n lent before table order need m) (l : m < n) (c : ℕ) (e : c ≡ choose (at need) (λ k. false) n n) where
     low : (k : ℕ) → k < n → key order m k < 65535
-    low k h = omega (arith, key-bound order need m k g h, w.few)
+    low k h = omega (arith, key_bound order need m k g h, w.few)
 
     pub growing_below : c < n
     growing_below = arranging_below key n before room order need m g l low c e
 
     pub growing_bound : at need c ≤ 1 + 96 * m
-    growing_bound = omega (arith, arranging_own key n before room order need m g l low c e, key-bound order need m c g growing_below)
+    growing_bound = omega (arith, arranging_own key n before room order need m g l low c e, key_bound order need m c g growing_below)
 
     -- it is the next path of the whole order, and goes to its lowest start
     next : set order m c ≡ greedy (lowest net) n table before (suc m)
     next = arranging_next key n before room order need m g l low c e
 
-    is-next : c ≡ o m
+    is_next : c ≡ o m
     unfolding o
-    is-next =
+    is_next =
         sym (at_same order m c (omega (arith, g.long, room)))
         ∙ ap (λ (t : List ℕ). at t m) next
         ∙ arranged_begins key n before room n (suc m) m (omega arith) l (omega arith)
 
     own : at need c ≡ lowest net (at (starts m)) o m c
-    own = arranging_own key n before room order need m g l low c e ∙ key-is order need m c g
+    own = arranging_own key n before room order need m g l low c e ∙ key_is order need m c g
 
-    starts-next : set (starts m) c (at need c) ≡ starts (suc m)
+    starts_next : set (starts m) c (at need c) ≡ starts (suc m)
     unfolding starts
-    starts-next = packed_next (lowest net) o table m (packed (lowest net) o table m) c (at need c) refl is-next own
+    starts_next = packed_next (lowest net) o table m (packed (lowest net) o table m) c (at need c) refl is_next own
 
-    key-next : (k : ℕ) → key (set order m c) (suc m) k ≡ lowest net (at (starts (suc m))) o (suc m) k
+    key_next : (k : ℕ) → key (set order m c) (suc m) k ≡ lowest net (at (starts (suc m))) o (suc m) k
     unfolding starts o
-    key-next k = ap (λ (t : List ℕ). key t (suc m) k) next ∙ same_start n lent before table w full (suc m) k l
+    key_next k = ap (λ (t : List ℕ). key t (suc m) k) next ∙ same_start n lent before table w full (suc m) k l
 
     -- the others are raised
     pub growing_more : (more : List ℕ) (v : ℕ) → v ≡ at lent.widths c → n ≤ length need → Raised n lent.guards c (at need c + v) need more
@@ -107,10 +107,10 @@ module _ (n : ℕ) (lent : Lent) (before table : List ℕ) (w : Network n lent) 
             let y = asks_most (at need c + v) (at lent.guards (cell c k)) 65535 (omega (arith, growing_bound, ev, w.width c growing_below, w.few)) in
             omega arith
         go k h false q =
-            raised_low n lent w o ord (starts m) (starts-long m) m l c (at need c) is-next v k (at need k) ev
-            (g.keyed k h ∙ ap (λ (b : Bool). cond b 65535 (key order m k)) q ∙ key-is order need m k g)
-            ∙ ap (λ (t : List ℕ). lowest net (at t) o (suc m) k) starts-next
-            ∙ sym (key-next k)
+            raised_low n lent w o ord (starts m) (starts_long m) m l c (at need c) is_next v k (at need k) ev
+            (g.keyed k h ∙ ap (λ (b : Bool). cond b 65535 (key order m k)) q ∙ key_is order need m k g)
+            ∙ ap (λ (t : List ℕ). lowest net (at t) o (suc m) k) starts_next
+            ∙ sym (key_next k)
 
   pub growing_last : (order need : List ℕ) (m : ℕ) → Growing n lent before table order need m → n ≤ m → order ≡ greedy (lowest net) n table before n
   growing_last order need m g l = arranging_last key n before room order need m g l

@@ -42,20 +42,20 @@ module _ (net : Net) (p : ℕ → ℕ) where
   valid_judged n wide v = pair_none (too_close net p) n (λ i j h l. clear_quiet i j (wide i h) (wide j l) (λ lt c. v.apart i j lt l c))
 
   -- 001's set distance of a pair is above its guard exactly where one is clear of the other
-  distance-ge : (i j x : ℕ) → 1 ≤ net.width i → 1 ≤ net.width j
+  distance_ge : (i j x : ℕ) → 1 ≤ net.width i → 1 ≤ net.width j
       → ((a b : ℕ) → a < net.width i → b < net.width j → x ≤ between (p i + a) (p j + b)) → x ≤ set_distance net p i j
   unfolding set_distance
-  distance-ge i j x wi wj h =
-      let d : x ≤ between (p i) (p j) = rw (plus-zero (p i), plus-zero (p j)) at (h 0 0 wi wj) in
+  distance_ge i j x wi wj h =
+      let d : x ≤ between (p i) (p j) = rw (plus_zero (p i), plus_zero (p j)) at (h 0 0 wi wj) in
       least_ge (between (p i) (p j)) (λ a. least (between (p i) (p j)) (λ b. between (p i + a) (p j + b)) (net.width j)) (net.width i) x d
       (λ a l. least_ge (between (p i) (p j)) (λ b. between (p i + a) (p j + b)) (net.width j) x d (λ b g. h a b l g))
     where
-      plus-zero : (m : ℕ) → m + 0 ≡ m
-      plus-zero m = omega arith
+      plus_zero : (m : ℕ) → m + 0 ≡ m
+      plus_zero m = omega arith
 
-  distance-le : (i j a b : ℕ) → a < net.width i → b < net.width j → set_distance net p i j ≤ between (p i + a) (p j + b)
+  distance_le : (i j a b : ℕ) → a < net.width i → b < net.width j → set_distance net p i j ≤ between (p i + a) (p j + b)
   unfolding set_distance
-  distance-le i j a b l g =
+  distance_le i j a b l g =
       omega (
         arith,
         least_le (between (p i) (p j)) (λ a. least (between (p i) (p j)) (λ b. between (p i + a) (p j + b)) (net.width j)) (net.width i) a l,
@@ -65,8 +65,8 @@ module _ (net : Net) (p : ℕ → ℕ) where
   pub clear_distance : (i j : ℕ) → 1 ≤ net.width i → 1 ≤ net.width j → net.guard j i ≡ net.guard i j
       → Clear net p i j ⊎ Clear net p j i → net.guard i j < set_distance net p i j
   unfolding between
-  clear_distance i j wi wj e (inl x) = distance-ge i j _ wi wj (λ a b l g. omega arith)
-  clear_distance i j wi wj e (inr x) = distance-ge i j _ wi wj (λ a b l g. omega arith)
+  clear_distance i j wi wj e (inl x) = distance_ge i j _ wi wj (λ a b l g. omega arith)
+  clear_distance i j wi wj e (inr x) = distance_ge i j _ wi wj (λ a b l g. omega arith)
 
   pub distance_clear : (i j : ℕ) → 1 ≤ net.width i → 1 ≤ net.width j → net.guard j i ≡ net.guard i j
       → net.guard i j < set_distance net p i j → Clear net p i j ⊎ Clear net p j i
@@ -74,13 +74,13 @@ module _ (net : Net) (p : ℕ → ℕ) where
   distance_clear i j wi wj e h = go (dec_lt (end net i (p i)) (p j)) (dec_lt (end net j (p j)) (p i))
     where
       go : Dec (end net i (p i) < p j) → Dec (end net j (p j) < p i) → Clear net p i j ⊎ Clear net p j i
-      go (yes x) d = inl (omega (arith, distance-le i j (net.width i - 1) 0 (omega arith) (omega arith)))
-      go (no x) (yes y) = inr (omega (arith, distance-le i j 0 (net.width j - 1) (omega arith) (omega arith)))
+      go (yes x) d = inl (omega (arith, distance_le i j (net.width i - 1) 0 (omega arith) (omega arith)))
+      go (no x) (yes y) = inr (omega (arith, distance_le i j 0 (net.width j - 1) (omega arith) (omega arith)))
       go (no x) (no y) = meet (dec_lt (p i) (p j))
         where
           meet : Dec (p i < p j) → Clear net p i j ⊎ Clear net p j i
-          meet (yes z) = absurd (omega (arith, distance-le i j (p j - p i) 0 (omega arith) (omega arith)))
-          meet (no z) = absurd (omega (arith, distance-le i j 0 (p i - p j) (omega arith) (omega arith)))
+          meet (yes z) = absurd (omega (arith, distance_le i j (p j - p i) 0 (omega arith) (omega arith)))
+          meet (no z) = absurd (omega (arith, distance_le i j 0 (p i - p j) (omega arith) (omega arith)))
 
   -- where the two blocks lie apart it is from the end of the lower to the start of the upper
   pub distance_below : (i j : ℕ) → 1 ≤ net.width i → 1 ≤ net.width j → end net i (p i) < p j → set_distance net p i j ≡ p j - end net i (p i)
@@ -88,8 +88,8 @@ module _ (net : Net) (p : ℕ → ℕ) where
   distance_below i j wi wj x =
       omega (
         arith,
-        distance-le i j (net.width i - 1) 0 (omega arith) (omega arith),
-        distance-ge i j (p j - end net i (p i)) wi wj (λ a b l g. omega arith),
+        distance_le i j (net.width i - 1) 0 (omega arith) (omega arith),
+        distance_ge i j (p j - end net i (p i)) wi wj (λ a b l g. omega arith),
       )
 
   pub distance_above : (i j : ℕ) → 1 ≤ net.width i → 1 ≤ net.width j → end net j (p j) < p i → set_distance net p i j ≡ p i - end net j (p j)
@@ -97,8 +97,8 @@ module _ (net : Net) (p : ℕ → ℕ) where
   distance_above i j wi wj x =
       omega (
         arith,
-        distance-le i j 0 (net.width j - 1) (omega arith) (omega arith),
-        distance-ge i j (p i - end net j (p j)) wi wj (λ a b l g. omega arith),
+        distance_le i j 0 (net.width j - 1) (omega arith) (omega arith),
+        distance_ge i j (p i - end net j (p j)) wi wj (λ a b l g. omega arith),
       )
 
   module _ (n : ℕ) (wide : (k : ℕ) → k < n → 1 ≤ net.width k) (mirrored : (i j : ℕ) → i < n → j < n → net.guard i j ≡ net.guard j i) where

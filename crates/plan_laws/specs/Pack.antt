@@ -46,8 +46,8 @@ module _ (f : Rule) (loc : Local f) where
       let s = packed f o t m in
       at_other s (o m) (f (at s) o m (o m)) k (λ e. h m (omega arith) (sym e)) ∙ packed_other o t m k (λ i l. h i (omega arith))
 
-  packs-step : (o : ℕ → ℕ) (s : List ℕ) (m : ℕ) → Order o (length s) (suc m) → Packs f o (at s) m → Packs f o (at (set s (o m) (f (at s) o m (o m)))) (suc m)
-  packs-step o s m ord ih =
+  packs_step : (o : ℕ → ℕ) (s : List ℕ) (m : ℕ) → Order o (length s) (suc m) → Packs f o (at s) m → Packs f o (at (set s (o m) (f (at s) o m (o m)))) (suc m)
+  packs_step o s m ord ih =
       each_suc (λ i. r (o i) ≡ f r o i (o i)) m
       (λ i l. omega (arith, agree i l, ih i l, loc r (at s) o o i (o i) (λ j k. refl) (λ j k. agree j (omega arith))))
       (omega (arith, at_same s (o m) (f (at s) o m (o m)) (ord.inside m (omega arith)), loc r (at s) o o m (o m) (λ j k. refl) agree))
@@ -64,7 +64,7 @@ module _ (f : Rule) (loc : Local f) where
   packed_packs o t zero ord = λ i l. omega arith
   packed_packs o t (suc m) ord =
       let shorter : Order o (length t) m = record { inside = λ i l. ord.inside i (omega arith); fresh = λ i j h l. ord.fresh i j h (omega arith) } in
-      packs-step o (packed f o t m) m (rw (packed_length o t m) ord) (packed_packs o t m shorter)
+      packs_step o (packed f o t m) m (rw (packed_length o t m) ord) (packed_packs o t m shorter)
 
 -- for the code: one store more
 pub packed_next : (f : Rule) (o : ℕ → ℕ) (t : List ℕ) (m : ℕ) (s : List ℕ) (k v : ℕ) → s ≡ packed f o t m → k ≡ o m → v ≡ f (at s) o m k → set s k v ≡ packed f o t (suc m)

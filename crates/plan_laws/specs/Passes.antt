@@ -32,18 +32,18 @@ pub record Passing (key : ℕ → ℕ) (n : ℕ) (before order : List ℕ) (valu
   pub held : (j : ℕ) → j < n → placed (at order) p j ≡ passed key value k j
 
 module _ (key : ℕ → ℕ) where
-  passed-not : (value k j : ℕ) → passed key value k j ≡ false → (value ≤ key j) × (key j ≡ value → k ≤ j)
+  passed_not : (value k j : ℕ) → passed key value k j ≡ false → (value ≤ key j) × (key j ≡ value → k ≤ j)
   unfolding passed
-  passed-not value k j = go (ltb (key j) value) refl (eqb (key j) value) refl
+  passed_not value k j = go (ltb (key j) value) refl (eqb (key j) value) refl
     where
       go : (a : Bool) → ltb (key j) value ≡ a → (b : Bool) → eqb (key j) value ≡ b → (a || (b && ltb j k)) ≡ false → (value ≤ key j) × (key j ≡ value → k ≤ j)
       go true e b f h = absurd (true≢false h)
       go false e true f h = (ltb-false (key j) value e, λ q. ltb-false j k h)
       go false e false f h = (ltb-false (key j) value e, λ q. absurd (eqb-false (key j) value f q))
 
-  passed-no : (value k j : ℕ) → value ≤ key j → k ≤ j → passed key value k j ≡ false
+  passed_no : (value k j : ℕ) → value ≤ key j → k ≤ j → passed key value k j ≡ false
   unfolding passed
-  passed-no value k j h l = rw (le-ltb (key j) value h, le-ltb j k l) (and_false (eqb (key j) value))
+  passed_no value k j h l = rw (le-ltb (key j) value h, le-ltb j k l) (and_false (eqb (key j) value))
 
   -- path k has its turn: where its key is of this value it is appended, else nothing is
   beyond : (k j : ℕ) → k ≢ j → ltb j k ≡ ltb j (suc k)
@@ -53,9 +53,9 @@ module _ (key : ℕ → ℕ) where
       go (yes l) = lt-ltb j k l ∙ sym (lt-ltb j (suc k) (omega arith))
       go (no l) = le-ltb j k (omega arith) ∙ sym (le-ltb j (suc k) (omega arith))
 
-  passed-put : (value k j : ℕ) → key k ≡ value → (passed key value k j || eqb k j) ≡ passed key value (suc k) j
+  passed_put : (value k j : ℕ) → key k ≡ value → (passed key value k j || eqb k j) ≡ passed key value (suc k) j
   unfolding passed
-  passed-put value k j e = go (ℕ_discrete k j)
+  passed_put value k j e = go (ℕ_discrete k j)
     where
       both : (a b : Bool) → ((a || (true && b)) || true) ≡ (a || (true && true))
       both true b = refl
@@ -70,9 +70,9 @@ module _ (key : ℕ → ℕ) where
       go (yes q) = rw (eq-eqb k j q, eq-eqb (key j) value (ap key (sym q) ∙ e), lt-ltb j (suc k) (omega arith)) (both (ltb (key j) value) (ltb j k))
       go (no q) = rw (ne_eqb k j q, ← beyond k j q) (or_false (ltb (key j) value || (eqb (key j) value && ltb j k)))
 
-  passed-skip : (value k j : ℕ) → key k ≢ value → passed key value k j ≡ passed key value (suc k) j
+  passed_skip : (value k j : ℕ) → key k ≢ value → passed key value k j ≡ passed key value (suc k) j
   unfolding passed
-  passed-skip value k j ne = go (ℕ_discrete k j)
+  passed_skip value k j ne = go (ℕ_discrete k j)
     where
       go : Dec (k ≡ j) → (ltb (key j) value || (eqb (key j) value && ltb j k)) ≡ (ltb (key j) value || (eqb (key j) value && ltb j (suc k)))
       go (yes q) = rw (ne_eqb (key j) value (λ e. ne (ap key q ∙ e)))
@@ -88,9 +88,9 @@ module _ (key : ℕ → ℕ) where
       go false true = refl
       go false false = refl
 
-  passed-all : (value n j : ℕ) → j < n → passed key value n j ≡ passed key (suc value) 0 j
+  passed_all : (value n j : ℕ) → j < n → passed key value n j ≡ passed key (suc value) 0 j
   unfolding passed
-  passed-all value n j l = rw (lt-ltb j n l) (go (dec_lt (key j) value) (ℕ_discrete (key j) value) ∙ sym (passed_start (suc value) j))
+  passed_all value n j l = rw (lt-ltb j n l) (go (dec_lt (key j) value) (ℕ_discrete (key j) value) ∙ sym (passed_start (suc value) j))
     where
       go : Dec (key j < value) → Dec (key j ≡ value) → (ltb (key j) value || (eqb (key j) value && true)) ≡ ltb (key j) (suc value)
       go (yes h) q = rw (lt-ltb (key j) value h) (sym (lt-ltb (key j) (suc value) (omega arith)))
@@ -105,7 +105,7 @@ module _ (key : ℕ → ℕ) (n : ℕ) (before : List ℕ) where
     here = omega arith;
     few = omega arith;
     made = refl;
-    held = λ j l. placed_none (at before) 0 j (λ i g. absurd (omega arith)) ∙ sym (passed-no key 0 0 j (omega arith) (omega arith));
+    held = λ j l. placed_none (at before) 0 j (λ i g. absurd (omega arith)) ∙ sym (passed_no key 0 0 j (omega arith) (omega arith));
   }
 
   module _ (order : List ℕ) (value k p : ℕ) (a : Passing key n before order value k p) where
@@ -125,22 +125,22 @@ module _ (key : ℕ → ℕ) (n : ℕ) (before : List ℕ) where
       here = omega arith;
       few = a.few;
       made = a.made;
-      held = λ j l. a.held j l ∙ ap (λ i. passed key value i j) e ∙ passed-all key value n j l;
+      held = λ j l. a.held j l ∙ ap (λ i. passed key value i j) e ∙ passed_all key value n j l;
     }
 
     module _ (l : k < n) where
-      passing-skip : key k ≢ value → Passing key n before order value (k + 1) p
-      passing-skip ne = rw add-one record {
+      passing_skip : key k ≢ value → Passing key n before order value (k + 1) p
+      passing_skip ne = rw add-one record {
         room = a.room;
         here = l;
         few = a.few;
         made = a.made;
-        held = λ j g. a.held j g ∙ passed-skip key value k j ne;
+        held = λ j g. a.held j g ∙ passed_skip key value k j ne;
       }
 
       module _ (e : key k ≡ value) where
         free : passed key value k k ≡ false
-        free = passed-no key value k k (omega arith) (omega arith)
+        free = passed_no key value k k (omega arith) (omega arith)
 
         pub passing_room : p < n
         passing_room = omega (arith, passing_count, count_more (passed key value k) (λ j. true) n k (λ j g h. refl) l free refl, count_le (λ j. true) n)
@@ -150,19 +150,19 @@ module _ (key : ℕ → ℕ) (n : ℕ) (before : List ℕ) where
         chosen = sym (choose_is key (placed (at order) p) n k record {
           inside = l;
           free = a.held k l ∙ free;
-          least = λ j g f. omega (arith, (passed-not key value k j (sym (a.held j g) ∙ f)).0);
-          first = λ j g f h. let q = passed-not key value k j (sym (a.held j g) ∙ f) in q.1 (omega (arith, q.0));
+          least = λ j g f. omega (arith, (passed_not key value k j (sym (a.held j g) ∙ f)).0);
+          first = λ j g f h. let q = passed_not key value k j (sym (a.held j g) ∙ f) in q.1 (omega (arith, q.0));
         })
 
-        passing-put : Passing key n before (set order p k) value (k + 1) (p + 1)
-        passing-put = rw (add-one k, add-one p) record {
+        passing_put : Passing key n before (set order p k) value (k + 1) (p + 1)
+        passing_put = rw (add-one k, add-one p) record {
           room = a.room;
           here = l;
           few = passing_room;
           made = arranged_next (λ s i. key) n before p order k a.made chosen;
           held = λ j g.
               placed_suc (at (set order p k)) p j
-              ∙ rw (placed_local (at (set order p k)) (at order) p j (λ i h. at_other order p k i (λ q. omega arith)), at_same order p k (omega (arith, passing_long, passing_room)), a.held j g) (passed-put key value k j e);
+              ∙ rw (placed_local (at (set order p k)) (at order) p j (λ i h. at_other order p k i (λ q. omega arith)), at_same order p k (omega (arith, passing_long, passing_room)), a.held j g) (passed_put key value k j e);
         }
 
       -- path k has its turn
@@ -171,8 +171,8 @@ module _ (key : ℕ → ℕ) (n : ℕ) (before : List ℕ) where
       passing_more order' p' = go (eqb (key k) value) refl
         where
           go : (b : Bool) → eqb (key k) value ≡ b → p' ≡ cond b (p + 1) p → order' ≡ cond b (set order p k) order → Passing key n before order' value (k + 1) p'
-          go true e f g = rw (f, g) (passing-put (eqb-true (key k) value e))
-          go false e f g = rw (f, g) (passing-skip (eqb-false (key k) value e))
+          go true e f g = rw (f, g) (passing_put (eqb-true (key k) value e))
+          go false e f g = rw (f, g) (passing_skip (eqb-false (key k) value e))
 
 -- the two sides: a high path has mark 2, and its key is 1; that of a low one is 0
 abbrev pub side_of : ℕ → ℕ

@@ -112,14 +112,14 @@ module _ (net : Net) (plan : ℕ → ℕ) (n : ℕ) where
   under s = count (λ j. ltb (plan j) s) n
 
   -- a path does not start below itself
-  under-own : (k : ℕ) → k < n → under (plan k) < n
-  under-own k l =
+  under_own : (k : ℕ) → k < n → under (plan k) < n
+  under_own k l =
       omega (arith, count_more (λ j. ltb (plan j) (plan k)) (λ j. true) n k (λ j g e. refl) l (le-ltb (plan k) (plan k) (omega arith)) refl, count_le (λ j. true) n)
 
   -- one path more in front of a chain
-  last-longer : (k : ℕ) (c : List ℕ) → 1 ≤ length c → last c ≡ last (k ∷ c)
-  last-longer k [] l = absurd (omega arith)
-  last-longer k (x ∷ c) l =
+  last_longer : (k : ℕ) (c : List ℕ) → 1 ≤ length c → last c ≡ last (k ∷ c)
+  last_longer k [] l = absurd (omega arith)
+  last_longer k (x ∷ c) l =
       let a : suc (length c) - 1 ≡ length c = omega arith in
       let b : suc (suc (length c)) - 1 ≡ suc (length c) = omega arith in
       rw (a, b)
@@ -131,7 +131,7 @@ module _ (net : Net) (plan : ℕ → ℕ) (n : ℕ) where
     above = λ i l. above i l;
     links = λ i l. links i l;
     lowest = λ i j l. lowest i j l;
-    ends = subst (λ x. (plan x ≡ net.low x) ⊎ ((j : ℕ) → HoldsUp net plan n x j → ⊥)) (last-longer k c h.some) h.ends;
+    ends = subst (λ x. (plan x ≡ net.low x) ⊎ ((j : ℕ) → HoldsUp net plan n x j → ⊥)) (last_longer k c h.some) h.ends;
   }
     where
       above : (i : ℕ) → suc i < length (k ∷ c) → plan (at (k ∷ c) i) ≢ net.low (at (k ∷ c) i)
@@ -178,7 +178,7 @@ module _ (net : Net) (plan : ℕ → ℕ) (n : ℕ) where
 
   pub chain_is : (k : ℕ) → k < n → Chain net plan n k (chain net plan n k)
   unfolding chain
-  chain_is k l = whole n k (under-own k l)
+  chain_is k l = whole n k (under_own k l)
 
   -- it has at most n paths
   fuel : (m k : ℕ) → length (chain_of net plan n m k) ≤ m
@@ -207,7 +207,7 @@ module _ (net : Net) (plan : ℕ → ℕ) (n : ℕ) where
     above = λ i l. h.above (suc i) (omega arith);
     links = λ i l. h.links (suc i) (omega arith);
     lowest = λ i j l. h.lowest (suc i) j (omega arith);
-    ends = subst (λ y. (plan y ≡ net.low y) ⊎ ((j : ℕ) → HoldsUp net plan n y j → ⊥)) (sym (last-longer k (x ∷ c) (omega arith))) h.ends;
+    ends = subst (λ y. (plan y ≡ net.low y) ⊎ ((j : ℕ) → HoldsUp net plan n y j → ⊥)) (sym (last_longer k (x ∷ c) (omega arith))) h.ends;
   }
 
   only : (m k : ℕ) (c : List ℕ) → under (plan k) < m → Chain net plan n k c → c ≡ chain_of net plan n m k
@@ -236,16 +236,16 @@ module _ (net : Net) (plan : ℕ → ℕ) (n : ℕ) where
 
   pub chain_only : (k : ℕ) (c : List ℕ) → k < n → Chain net plan n k c → c ≡ chain net plan n k
   unfolding chain
-  chain_only k c l h = only n k c (under-own k l) h
+  chain_only k c l h = only n k c (under_own k l) h
 
 -- for the code: the next path of a chain, or n
 module _ (net : Net) (plan : ℕ → ℕ) (n k : ℕ) where
   pub next_low : plan k ≡ net.low k → n ≡ cond (is_last net plan n k) n (link net plan n k)
   next_low e = rw (ends_low net plan n k e)
 
-  link-most : link net plan n k ≤ n
+  link_most : link net plan n k ≤ n
   unfolding link
-  link-most = pick (first_is (holds_up net plan k) n)
+  link_most = pick (first_is (holds_up net plan k) n)
     where
       pick : First (holds_up net plan k) n (first (holds_up net plan k) n) → first (holds_up net plan k) n ≤ n
       pick (none e h) = omega arith
@@ -256,7 +256,7 @@ module _ (net : Net) (plan : ℕ → ℕ) (n k : ℕ) where
     where
       go : Dec (link net plan n k < n) → link net plan n k ≡ cond (is_last net plan n k) n (link net plan n k)
       go (yes l) = rw (goes_on net plan n k (link net plan n k) ne refl l)
-      go (no l) = rw (ends_free net plan n k (link net plan n k) ne refl (omega arith)) (omega (arith, link-most))
+      go (no l) = rw (ends_free net plan n k (link net plan n k) ne refl (omega arith)) (omega (arith, link_most))
 
   pub next_ends : (j : ℕ) → j ≡ cond (is_last net plan n k) n (link net plan n k) → n ≤ j → is_last net plan n k ≡ true
   next_ends j e l = go (is_last net plan n k) refl e
@@ -274,18 +274,18 @@ module _ (net : Net) (plan : ℕ → ℕ) (n k : ℕ) where
 
 -- a chain being written: m paths stand in the table, and path k is the next
 module _ (net : Net) (plan : ℕ → ℕ) (n path : ℕ) (before : List ℕ) where
-  abbrev whole-chain : List ℕ
-  whole-chain = chain net plan n path
+  abbrev whole_chain : List ℕ
+  whole_chain = chain net plan n path
 
   pub record Writing (m k : ℕ) (table : List ℕ) : Type 0 where
     pub room : m ≤ n
     pub inside : k < n
     pub size : length table ≡ length before
-    pub left : sets table m (chain_of net plan n (n - m) k) ≡ sets before 0 whole-chain
-    pub count : m + length (chain_of net plan n (n - m) k) ≡ length whole-chain
+    pub left : sets table m (chain_of net plan n (n - m) k) ≡ sets before 0 whole_chain
+    pub count : m + length (chain_of net plan n (n - m) k) ≡ length whole_chain
 
   abbrev pub Written : ℕ → List ℕ → Type 0
-  Written r table = (r ≡ length whole-chain) × (table ≡ whole-chain ++ drop (length whole-chain) before)
+  Written r table = (r ≡ length whole_chain) × (table ≡ whole_chain ++ drop (length whole_chain) before)
 
   pub writing_first : path < n → Writing 0 path before
   unfolding chain
@@ -293,11 +293,11 @@ module _ (net : Net) (plan : ℕ → ℕ) (n path : ℕ) (before : List ℕ) whe
       let e : n - 0 ≡ n = omega arith in
       record { room = omega arith; inside = l; size = refl; left = rw e; count = rw e (omega arith) }
 
-  done : (table : List ℕ) → n ≤ length before → table ≡ sets before 0 whole-chain → table ≡ whole-chain ++ drop (length whole-chain) before
+  done : (table : List ℕ) → n ≤ length before → table ≡ sets before 0 whole_chain → table ≡ whole_chain ++ drop (length whole_chain) before
   done table room e =
       let few = chain_few net plan n path in
-      let z : 0 + length whole-chain ≡ length whole-chain = omega arith in
-      e ∙ sets-eq whole-chain before 0 (omega arith) ∙ ap (λ (k : ℕ). whole-chain ++ drop k before) z
+      let z : 0 + length whole_chain ≡ length whole_chain = omega arith in
+      e ∙ sets-eq whole_chain before 0 (omega arith) ∙ ap (λ (k : ℕ). whole_chain ++ drop k before) z
 
   module _ (m k : ℕ) (table : List ℕ) (w : Writing m k table) where
     more : m < n → n - m ≡ suc (n - (m + 1))
@@ -330,11 +330,11 @@ module _ (net : Net) (plan : ℕ → ℕ) (n path : ℕ) (before : List ℕ) whe
 
 -- the lowest slot that path k can come down to, a path at a time
 module _ (net : Net) (plan : ℕ → ℕ) (k : ℕ) where
-  abbrev pub asksOf : ℕ → ℕ
-  asksOf j = cond (is_below net plan k j) (past net j k (plan j)) 0
+  abbrev pub asks_of : ℕ → ℕ
+  asks_of j = cond (is_below net plan k j) (past net j k (plan j)) 0
 
   pub asks_told : (j : ℕ) → net.guard k j ≡ net.guard j k
-      → cond (ltb (net.guard k j) 255) (cond (ltb (plan j) (plan k)) (plan j + net.width j - 1 + net.guard k j + 1) 0) 0 ≡ asksOf j
+      → cond (ltb (net.guard k j) 255) (cond (ltb (plan j) (plan k)) (plan j + net.width j - 1 + net.guard k j + 1) 0) 0 ≡ asks_of j
   unfolding is_below
   asks_told j e = rw e (go (ltb (net.guard j k) 255))
     where
@@ -342,17 +342,17 @@ module _ (net : Net) (plan : ℕ → ℕ) (k : ℕ) where
       go true = refl
       go false = refl
 
-  pub bottom_first : (low : ℕ) → low ≡ net.low k → low ≡ max (net.low k) (largest asksOf 0)
+  pub bottom_first : (low : ℕ) → low ≡ net.low k → low ≡ max (net.low k) (largest asks_of 0)
   unfolding largest
   bottom_first low e = omega arith
 
-  pub bottom_more : (low x j : ℕ) → low ≡ max (net.low k) (largest asksOf j) → x ≡ asksOf j → max low x ≡ max (net.low k) (largest asksOf (j + 1))
+  pub bottom_more : (low x j : ℕ) → low ≡ max (net.low k) (largest asks_of j) → x ≡ asks_of j → max low x ≡ max (net.low k) (largest asks_of (j + 1))
   unfolding largest
   bottom_more low x j e f = rw (add-one j) (omega (arith, e, f))
 
-  pub bottom_last : (n low j : ℕ) → low ≡ max (net.low k) (largest asksOf j) → j ≡ n → low ≡ bottom net plan n k
+  pub bottom_last : (n low j : ℕ) → low ≡ max (net.low k) (largest asks_of j) → j ≡ n → low ≡ bottom net plan n k
   unfolding bottom
-  bottom_last n low j e f = e ∙ ap (λ (i : ℕ). max (net.low k) (largest asksOf i)) f
+  bottom_last n low j e f = e ∙ ap (λ (i : ℕ). max (net.low k) (largest asks_of i)) f
 
 -- what a path asks, by the three ways out
 module _ (g s t x : ℕ) where

@@ -112,27 +112,27 @@ touches_suc net order m k = found_suc (λ i. in_conflict net (order i) k) m
 
 module _ (net : Net) (mark order : ℕ → ℕ) where
   -- a mark is asked of a path that is met, and of no other
-  opposite-alone : (m k : ℕ) → touches net order m k ≡ false → opposite net mark order m k ≡ 1
+  opposite_alone : (m k : ℕ) → touches net order m k ≡ false → opposite net mark order m k ≡ 1
   unfolding opposite touches
-  opposite-alone zero k e = refl
-  opposite-alone (suc m) k e =
+  opposite_alone zero k e = refl
+  opposite_alone (suc m) k e =
       let none = found_not (λ i. in_conflict net (order i) k) (suc m) e in
-      rw (none m (omega arith)) (opposite-alone m k (found_none (λ i. in_conflict net (order i) k) m (λ i l. none i (omega arith))))
+      rw (none m (omega arith)) (opposite_alone m k (found_none (λ i. in_conflict net (order i) k) m (λ i l. none i (omega arith))))
 
-  opposite-side : (m k : ℕ) → ((i : ℕ) → i < m → Side (mark (order i))) → Side (opposite net mark order m k)
+  opposite_side : (m k : ℕ) → ((i : ℕ) → i < m → Side (mark (order i))) → Side (opposite net mark order m k)
   unfolding opposite
-  opposite-side zero k h = (omega arith, omega arith)
-  opposite-side (suc m) k h = go (in_conflict net (order m) k) (h m (omega arith)) (opposite-side m k (λ i l. h i (omega arith)))
+  opposite_side zero k h = (omega arith, omega arith)
+  opposite_side (suc m) k h = go (in_conflict net (order m) k) (h m (omega arith)) (opposite_side m k (λ i l. h i (omega arith)))
     where
       go : (b : Bool) → Side (mark (order m)) → Side (opposite net mark order m k) → Side (cond b (3 - mark (order m)) (opposite net mark order m k))
       go true s r = (omega (arith, s), omega (arith, s))
       go false s r = r
 
-  packs-side : (m : ℕ) → Packs (opposite net) order mark m → (i : ℕ) → i < m → Side (mark (order i))
-  packs-side zero h = λ i l. absurd (omega arith)
-  packs-side (suc m) h =
-      let ih = packs-side m (λ i l. h i (omega arith)) in
-      each_suc (λ i. Side (mark (order i))) m ih (rw (h m (omega arith)) (opposite-side m (order m) ih))
+  packs_side : (m : ℕ) → Packs (opposite net) order mark m → (i : ℕ) → i < m → Side (mark (order i))
+  packs_side zero h = λ i l. absurd (omega arith)
+  packs_side (suc m) h =
+      let ih = packs_side m (λ i l. h i (omega arith)) in
+      each_suc (λ i. Side (mark (order i))) m ih (rw (h m (omega arith)) (opposite_side m (order m) ih))
 
 -- what the cell of path k tells, by its kind
 data Told (net : Net) (mark order : ℕ → ℕ) (m k x : ℕ) : Type 0 where
@@ -160,13 +160,13 @@ module _ (n : ℕ) (lent : Lent) (few : n ≤ 128) where
   unfolding spread_path
   ord = arranged_order key n (cleared 128 0) room n (omega arith)
 
-  marks-long : (m : ℕ) → length (spread_marks n lent m) ≡ 128
+  marks_long : (m : ℕ) → length (spread_marks n lent m) ≡ 128
   unfolding spread_marks
-  marks-long m = packed_length (opposite net) (opposite_local net) o (cleared 128 0) m ∙ cleared_length 128 0
+  marks_long m = packed_length (opposite net) (opposite_local net) o (cleared 128 0) m ∙ cleared_length 128 0
 
   side : (m : ℕ) → m ≤ n → (i : ℕ) → i < m → Side (mark m (o i))
   unfolding spread_marks
-  side m l = packs-side net (mark m) o m (packed_packs (opposite net) (opposite_local net) o (cleared 128 0) m record {
+  side m l = packs_side net (mark m) o m (packed_packs (opposite net) (opposite_local net) o (cleared 128 0) m record {
     inside = λ i h. omega (arith, ord.inside i (omega arith), room);
     fresh = λ i j h g. ord.fresh i j h (omega arith);
   })
@@ -177,7 +177,7 @@ module _ (n : ℕ) (lent : Lent) (few : n ≤ 128) where
     where
       go : (a : Bool) → placed o m k ≡ a → (b : Bool) → touches net o m k ≡ b → x ≡ cond a (mark m k) (cond b (opposite net (mark m) o m k + 2) 0) → Told net (mark m) o m k x
       go true e b f h = let i = placed_at o m k e in marked e h (rw h (subst (λ (j : ℕ). Side (mark m j)) i.2 (side m l i.0 i.1)))
-      go false e true f h = let s = opposite-side net (mark m) o m k (side m l) in met e f h (omega (arith, s), omega (arith, s))
+      go false e true f h = let s = opposite_side net (mark m) o m k (side m l) in met e f h (omega (arith, s), omega (arith, s))
       go false e false f h = unmet e f h
 
   pub spreading_first : (table : List ℕ) → table ≡ cleared 128 0 → Spreading n lent table 0
@@ -189,41 +189,41 @@ module _ (n : ℕ) (lent : Lent) (few : n ≤ 128) where
     rest = λ k l. ap (λ (t : List ℕ). at t k) e;
   }
 
-  told-all : (k : ℕ) → k < n → told net (mark n) o n k ≡ mark n k
+  told_all : (k : ℕ) → k < n → told net (mark n) o n k ≡ mark n k
   unfolding told
-  told-all k l = rw (count_full (placed o n) n (count_placed o n n ord) k l)
+  told_all k l = rw (count_full (placed o n) n (count_placed o n n ord) k l)
 
   module _ (table : List ℕ) (m : ℕ) (p : Spreading n lent table m) where
     telling : (k : ℕ) → k < n → Told net (mark m) o m k (at table k)
     telling k l = kind m p.here k (at table k) (p.tells k l)
 
     -- the tests of a cell
-    met-is : (k : ℕ) → k < n → between 3 4 (at table k) ≡ true → (placed o m k ≡ false) × (touches net o m k ≡ true)
-    met-is k l h = go (telling k l) (between_is 3 4 (at table k) h)
+    met_is : (k : ℕ) → k < n → between 3 4 (at table k) ≡ true → (placed o m k ≡ false) × (touches net o m k ≡ true)
+    met_is k l h = go (telling k l) (between_is 3 4 (at table k) h)
       where
         go : Told net (mark m) o m k (at table k) → (3 ≤ at table k) × (at table k ≤ 4) → (placed o m k ≡ false) × (touches net o m k ≡ true)
         go (marked e f s) r = absurd (omega (arith, s, r))
         go (met e t f s) r = (e, t)
         go (unmet e t f) r = absurd (omega (arith, f, r))
 
-    met-not : (k : ℕ) → k < n → between 3 4 (at table k) ≡ false → placed o m k ≡ false → touches net o m k ≡ false
-    met-not k l h g = go (telling k l)
+    met_not : (k : ℕ) → k < n → between 3 4 (at table k) ≡ false → placed o m k ≡ false → touches net o m k ≡ false
+    met_not k l h g = go (telling k l)
       where
         go : Told net (mark m) o m k (at table k) → touches net o m k ≡ false
         go (marked e f s) = absurd (true≢false (sym e ∙ g))
         go (met e t f s) = absurd (true≢false (sym (between_yes 3 4 (at table k) (omega (arith, s)) (omega (arith, s))) ∙ h))
         go (unmet e t f) = t
 
-    unmet-is : (k : ℕ) → k < n → between 0 0 (at table k) ≡ true → placed o m k ≡ false
-    unmet-is k l h = go (telling k l) (between_is 0 0 (at table k) h)
+    unmet_is : (k : ℕ) → k < n → between 0 0 (at table k) ≡ true → placed o m k ≡ false
+    unmet_is k l h = go (telling k l) (between_is 0 0 (at table k) h)
       where
         go : Told net (mark m) o m k (at table k) → (0 ≤ at table k) × (at table k ≤ 0) → placed o m k ≡ false
         go (marked e f s) r = absurd (omega (arith, s, r))
         go (met e t f s) r = e
         go (unmet e t f) r = e
 
-    unmet-not : (k : ℕ) → k < n → between 0 0 (at table k) ≡ false → placed o m k ≡ false → touches net o m k ≡ true
-    unmet-not k l h g = go (telling k l)
+    unmet_not : (k : ℕ) → k < n → between 0 0 (at table k) ≡ false → placed o m k ≡ false → touches net o m k ≡ true
+    unmet_not k l h g = go (telling k l)
       where
         go : Told net (mark m) o m k (at table k) → touches net o m k ≡ true
         go (marked e f s) = absurd (true≢false (sym e ∙ g))
@@ -245,7 +245,7 @@ module _ (n : ℕ) (lent : Lent) (few : n ≤ 128) where
       found : (r : ℕ) → First (λ k. between 3 4 (at table k)) n r → (q : ℕ) → First (λ k. between 0 0 (at table k)) n q
           → Chosen weight (placed o m) n (cond (ltb r n) r q)
       found r (some g e h) q _ =
-          let t = met-is r g e in
+          let t = met_is r g e in
           rw (lt-ltb r n g) record {
             inside = g;
             free = t.0;
@@ -254,22 +254,22 @@ module _ (n : ℕ) (lent : Lent) (few : n ≤ 128) where
           }
         where
           early : (k : ℕ) → k < n → placed o m k ≡ false → touches net o m k ≡ true → Dec (k < r) → r ≤ k
-          early k d f t (yes y) = absurd (true≢false (sym t ∙ met-not k d (h k y) f))
+          early k d f t (yes y) = absurd (true≢false (sym t ∙ met_not k d (h k y) f))
           early k d f t (no y) = omega arith
       found r (none e h) q (some g d w) =
           rw (e, le-ltb n n (omega arith)) record {
             inside = g;
-            free = unmet-is q g d;
-            least = λ k y f. rw (met-not k y (h k y) f, met-not q g (h q g) (unmet-is q g d)) (omega arith);
+            free = unmet_is q g d;
+            least = λ k y f. rw (met_not k y (h k y) f, met_not q g (h q g) (unmet_is q g d)) (omega arith);
             first = λ k y f z. early k y f (dec_lt k q);
           }
         where
           early : (k : ℕ) → k < n → placed o m k ≡ false → Dec (k < q) → q ≤ k
-          early k y f (yes z) = absurd (true≢false (sym (unmet-not k y (w k z) f) ∙ met-not k y (h k y) f))
+          early k y f (yes z) = absurd (true≢false (sym (unmet_not k y (w k z) f) ∙ met_not k y (h k y) f))
           early k y f (no z) = omega arith
       found r (none e h) q (none d w) =
           let c = ord.inside m l in
-          absurd (true≢false (sym (unmet-not (o m) c (w (o m) c) fresh) ∙ met-not (o m) c (h (o m) c) fresh))
+          absurd (true≢false (sym (unmet_not (o m) c (w (o m) c) fresh) ∙ met_not (o m) c (h (o m) c) fresh))
 
       pub spreading_next : next_path n table ≡ o m
       unfolding spread_path next_path
@@ -297,29 +297,29 @@ module _ (n : ℕ) (lent : Lent) (few : n ≤ 128) where
             go : Told net (mark m) o m c (at table c) → cond (ltb (at table c) 3) 1 (at table c - 2) ≡ opposite net (mark m) o m c
             go (marked f x r) = absurd (true≢false (sym f ∙ ap (placed o m) next ∙ fresh))
             go (met f t x r) = rw (le-ltb (at table c) 3 (omega (arith, r))) (omega (arith, x))
-            go (unmet f t x) = rw (lt-ltb (at table c) 3 (omega (arith, x))) (sym (opposite-alone net (mark m) o m c t))
+            go (unmet f t x) = rw (lt-ltb (at table c) 3 (omega (arith, x))) (sym (opposite_alone net (mark m) o m c t))
 
         pub spreading_side : (1 ≤ s) × (s ≤ 2)
-        spreading_side = rw asked (opposite-side net (mark m) o m c (side m p.here))
+        spreading_side = rw asked (opposite_side net (mark m) o m c (side m p.here))
 
         mine : mark (suc m) c ≡ s
         unfolding spread_marks packed
         mine =
-            rw (next, asked, next) (at_same (spread_marks n lent m) (o m) (opposite net (mark m) o m (o m)) (omega (arith, marks-long m, ord.inside m l)))
+            rw (next, asked, next) (at_same (spread_marks n lent m) (o m) (opposite net (mark m) o m (o m)) (omega (arith, marks_long m, ord.inside m l)))
 
         old : (k : ℕ) → c ≢ k → mark (suc m) k ≡ mark m k
         unfolding spread_marks packed
         old k ne = at_other (spread_marks n lent m) (o m) (opposite net (mark m) o m (o m)) k (λ q. ne (next ∙ sym q))
 
-        opposite-more : (k : ℕ) → opposite net (mark (suc m)) o (suc m) k ≡ cond (in_conflict net c k) (3 - s) (opposite net (mark m) o m k)
+        opposite_more : (k : ℕ) → opposite net (mark (suc m)) o (suc m) k ≡ cond (in_conflict net c k) (3 - s) (opposite net (mark m) o m k)
         unfolding opposite
-        opposite-more k =
+        opposite_more k =
             rw (← next, mine, opposite_local net (mark (suc m)) (mark m) o o m k (λ i g. refl) (λ i g. old (o i) (λ q. ord.fresh i m g l (sym q ∙ next))))
 
         told_more : (k : ℕ) → placed o (suc m) k ≡ false
             → told net (mark (suc m)) o (suc m) k ≡ cond (in_conflict net c k) (5 - s) (cond (touches net o m k) (opposite net (mark m) o m k + 2) 0)
         unfolding told
-        told_more k f = rw (f, touches_suc net o m k, ← next, opposite-more k) (go (touches net o m k) (in_conflict net c k))
+        told_more k f = rw (f, touches_suc net o m k, ← next, opposite_more k) (go (touches net o m k) (in_conflict net c k))
           where
             go : (a b : Bool) → cond (a || b) (cond b (3 - s) (opposite net (mark m) o m k) + 2) 0 ≡ cond b (5 - s) (cond a (opposite net (mark m) o m k + 2) 0)
             go true true = omega (arith, spreading_side)
@@ -331,43 +331,43 @@ module _ (n : ℕ) (lent : Lent) (few : n ≤ 128) where
         abbrev after : ℕ → ℕ → ℕ
         after k x = meeting (5 - s) (at lent.guards (cell c k)) x
 
-        after-other : (k : ℕ) → c ≢ k → placed o m k ≡ false → between 1 2 (at table k) ≡ false → at table k ≡ cond (touches net o m k) (opposite net (mark m) o m k + 2) 0
+        after_other : (k : ℕ) → c ≢ k → placed o m k ≡ false → between 1 2 (at table k) ≡ false → at table k ≡ cond (touches net o m k) (opposite net (mark m) o m k + 2) 0
             → after k (at table k) ≡ told net (mark (suc m)) o (suc m) k
-        after-other k ne f b x =
+        after_other k ne f b x =
             not_spared (5 - s) (at lent.guards (cell c k)) (at table k) b
             ∙ ap (λ (y : ℕ). cond (in_conflict net c k) (5 - s) y) x
             ∙ sym (told_more k (sym (placed_miss o m k false (sym f) (λ q. ne (next ∙ q)))))
 
-        after-told : (k : ℕ) → k < n → Dec (c ≡ k) → after k (at (set table c s) k) ≡ told net (mark (suc m)) o (suc m) k
+        after_told : (k : ℕ) → k < n → Dec (c ≡ k) → after k (at (set table c s) k) ≡ told net (mark (suc m)) o (suc m) k
         unfolding told
-        after-told k h (yes q) =
+        after_told k h (yes q) =
             rw (← q, ← placed_hit o m c (sym next), at_same table c s (omega (arith, p.full, spreading_below)), mine) (spared (5 - s) (at lent.guards (cell c c)) s (between_yes 1 2 s spreading_side.0 spreading_side.1))
-        after-told k h (no ne) = rw (at_other table c s k (λ q. ne (sym q))) (go (telling k h))
+        after_told k h (no ne) = rw (at_other table c s k (λ q. ne (sym q))) (go (telling k h))
           where
             go : Told net (mark m) o m k (at table k) → after k (at table k) ≡ told net (mark (suc m)) o (suc m) k
             go (marked f x r) =
                 spared (5 - s) (at lent.guards (cell c k)) (at table k) (between_yes 1 2 (at table k) r.0 r.1)
                 ∙ rw (← placed_miss o m k true (sym f) (λ q. ne (next ∙ q))) (x ∙ sym (old k ne))
-            go (met f t x r) = after-other k ne f (between_high 1 2 (at table k) (omega (arith, r))) (rw t x)
-            go (unmet f t x) = after-other k ne f (between_low 1 2 (at table k) (omega (arith, x))) (rw t x)
+            go (met f t x r) = after_other k ne f (between_high 1 2 (at table k) (omega (arith, r))) (rw t x)
+            go (unmet f t x) = after_other k ne f (between_low 1 2 (at table k) (omega (arith, x))) (rw t x)
 
         pub spreading_more : (table' : List ℕ) → Met n lent.guards c (5 - s) (set table c s) table' → Spreading n lent table' (m + 1)
         spreading_more table' u = rw add-one record {
           here = l;
           full = u.long ∙ length-set table c s ∙ p.full;
-          tells = λ k h. u.done k h ∙ after-told k h (ℕ_discrete c k);
+          tells = λ k h. u.done k h ∙ after_told k h (ℕ_discrete c k);
           rest = λ k h. u.left k h ∙ at_other table c s k (λ q. omega (arith, spreading_below)) ∙ p.rest k h;
         }
 
     pub spreading_last : n ≤ m → table ≡ marks net n
     unfolding marks spread_marks spread_path
-    spreading_last l = ext_get_or 0 table (spread_marks n lent n) (p.full ∙ sym (marks-long n)) (λ k g. go k (dec_lt k n))
+    spreading_last l = ext_get_or 0 table (spread_marks n lent n) (p.full ∙ sym (marks_long n)) (λ k g. go k (dec_lt k n))
       where
         all : m ≡ n
         all = omega (arith, p.here)
 
         go : (k : ℕ) → Dec (k < n) → at table k ≡ mark n k
-        go k (yes h) = p.tells k h ∙ ap (λ (j : ℕ). told net (mark j) o j k) all ∙ told-all k h
+        go k (yes h) = p.tells k h ∙ ap (λ (j : ℕ). told net (mark j) o j k) all ∙ told_all k h
         go k (no h) = p.rest k (omega arith) ∙ sym (packed_other (opposite net) (opposite_local net) o (cleared 128 0) n k (λ i g q. omega (arith, ord.inside i g)))
 
     -- then each path is marked, and no cell past them
@@ -380,10 +380,10 @@ module _ (n : ℕ) (lent : Lent) (few : n ≤ 128) where
         all : m ≡ n
         all = omega (arith, p.here)
 
-        set-down : (k : ℕ) → k < n → placed o m k ≡ true
-        set-down k h = rw all (count_full (placed o n) n (count_placed o n n ord) k h)
+        set_down : (k : ℕ) → k < n → placed o m k ≡ true
+        set_down k h = rw all (count_full (placed o n) n (count_placed o n n ord) k h)
 
         go : (k : ℕ) → k < n → Told net (mark m) o m k (at table k) → 1 ≤ at table k
         go k h (marked e f s) = s.0
-        go k h (met e t f s) = absurd (true≢false (sym (set-down k h) ∙ e))
-        go k h (unmet e t f) = absurd (true≢false (sym (set-down k h) ∙ e))
+        go k h (met e t f s) = absurd (true≢false (sym (set_down k h) ∙ e))
+        go k h (unmet e t f) = absurd (true≢false (sym (set_down k h) ∙ e))

@@ -19,23 +19,23 @@ use Rattle.table_laws.specs.Limits.{order_once}
 
 module _ (cost : (ℕ → ℕ) → ℕ) (bid k : ℕ) (same : (r s : ℕ → ℕ) → ((i : ℕ) → i < k → r i ≡ s i) → cost r ≡ cost s) where
   -- no order that begins with the first m of the table costs less
-  least-order-le : (left m : ℕ) (o : List ℕ) → left + m ≡ k → k ≤ length o → (r : ℕ → ℕ) → Order r k k → ((i : ℕ) → i < m → r i ≡ at o i) → least_order cost bid k left m o ≤ cost r
+  least_order_le : (left m : ℕ) (o : List ℕ) → left + m ≡ k → k ≤ length o → (r : ℕ → ℕ) → Order r k k → ((i : ℕ) → i < m → r i ≡ at o i) → least_order cost bid k left m o ≤ cost r
   unfolding least_order
-  least-order-le zero m o e room r ord begins = omega (arith, same r (at o) (λ i l. begins i (omega arith)))
-  least-order-le (suc left) m o e room r ord begins =
+  least_order_le zero m o e room r ord begins = omega (arith, same r (at o) (λ i l. begins i (omega arith)))
+  least_order_le (suc left) m o e room r ord begins =
       let free : placed (at o) m (r m) ≡ false = placed_none (at o) m (r m) (λ i l q. ord.fresh i m l (omega arith) (begins i l ∙ q)) in
-      let next = least-order-le left (suc m) (set o m (r m)) (omega arith) (omega (arith, length-set o m (r m))) r ord
+      let next = least_order_le left (suc m) (set o m (r m)) (omega arith) (omega (arith, length-set o m (r m))) r ord
       (each_suc (λ i. r i ≡ at (set o m (r m)) i) m (λ i l. begins i l ∙ sym (at_other o m (r m) i (λ q. omega arith))) (sym (at_same o m (r m) (omega arith)))) in
       let here = least_le bid (λ j. cond (placed (at o) m j) bid (least_order cost bid k left (suc m) (set o m j))) k (r m) (ord.inside m (omega arith)) in
       omega (arith, next, rw free at here)
 
   -- some order costs it, or it is the bid
-  least-order-at : (left m : ℕ) (o : List ℕ) → left + m ≡ k → k ≤ length o → Order (at o) k m
+  least_order_at : (left m : ℕ) (o : List ℕ) → left + m ≡ k → k ≤ length o → Order (at o) k m
       → (least_order cost bid k left m o ≡ bid) ⊎ ((r : ℕ → ℕ) × Order r k k × (least_order cost bid k left m o ≡ cost r))
   unfolding least_order
-  least-order-at zero m o e room ord = let q : m ≡ k = omega arith in inr (at o, rw q at ord, refl)
-  least-order-at (suc left) m o e room ord = go (least_at bid (λ j. cond (placed (at o) m j) bid (least_order cost bid k left (suc m) (set o m j))) k)
-      (λ j l f. least-order-at left (suc m) (set o m j) (omega arith) (omega (arith, length-set o m j)) (order_more o k m j (omega arith) ord l (placed_not (at o) m j f)))
+  least_order_at zero m o e room ord = let q : m ≡ k = omega arith in inr (at o, rw q at ord, refl)
+  least_order_at (suc left) m o e room ord = go (least_at bid (λ j. cond (placed (at o) m j) bid (least_order cost bid k left (suc m) (set o m j))) k)
+      (λ j l f. least_order_at left (suc m) (set o m j) (omega arith) (omega (arith, length-set o m j)) (order_more o k m j (omega arith) ord l (placed_not (at o) m j f)))
     where
       value : ℕ
       value = least bid (λ j. cond (placed (at o) m j) bid (least_order cost bid k left (suc m) (set o m j))) k
@@ -68,11 +68,11 @@ module _ (guard : ℕ → ℕ → ℕ) (k : ℕ) where
   -- the shortest walk is no longer than any other, and some order has it
   pub shortest_le : (r : ℕ → ℕ) → Order r k k → shortest guard k ≤ walk_length guard k r
   unfolding shortest
-  shortest_le r ord = least-order-le (walk_length guard k) (walk_length guard k (λ i. i)) k by_entries k 0 (cleared k 0) (omega arith) room r ord (λ i l. absurd (omega arith))
+  shortest_le r ord = least_order_le (walk_length guard k) (walk_length guard k (λ i. i)) k by_entries k 0 (cleared k 0) (omega arith) room r ord (λ i l. absurd (omega arith))
 
   pub shortest_at : (r : ℕ → ℕ) × Order r k k × (shortest guard k ≡ walk_length guard k r)
   unfolding shortest
-  shortest_at = go (least-order-at (walk_length guard k) (walk_length guard k (λ i. i)) k by_entries k 0 (cleared k 0) (omega arith) room
+  shortest_at = go (least_order_at (walk_length guard k) (walk_length guard k (λ i. i)) k by_entries k 0 (cleared k 0) (omega arith) room
       record { inside = λ i l. absurd (omega arith); fresh = λ i j h l. absurd (omega arith) })
     where
       go : (shortest guard k ≡ walk_length guard k (λ i. i)) ⊎ ((r : ℕ → ℕ) × Order r k k × (shortest guard k ≡ walk_length guard k r)) → (r : ℕ → ℕ) × Order r k k × (shortest guard k ≡ walk_length guard k r)

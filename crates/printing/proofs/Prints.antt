@@ -27,18 +27,18 @@ abbrev outcome : Bool → Fault → List ℕ → List ℕ → Left SheetWritten 
 outcome b f s text = cond b (left (record { number = 0; place = 0; length = length s }) (s ++ drop (length s) text)) (left (record { number = f.number; place = f.place; length = 0 }) text)
 
 module _ (n : ℕ) (labels : List ℕ) (lent : Lent) (starts : List ℕ) where
-  fault-even : (text other : List ℕ) → length text ≡ length other → write_fault n labels lent starts text ≡ write_fault n labels lent starts other
+  fault_even : (text other : List ℕ) → length text ≡ length other → write_fault n labels lent starts text ≡ write_fault n labels lent starts other
   unfolding write_fault
-  fault-even text other e = rw e
+  fault_even text other e = rw e
 
   writing_is : (text : List ℕ) → writing n labels lent starts text
       ≡ outcome (eqb (write_fault n labels lent starts text).number 0) (write_fault n labels lent starts text) (sheet_text n labels lent starts) text
   unfolding writing unless
   writing_is text = refl
 
-  written-even : (text other : List ℕ) → length text ≡ length other → sheet_of (writing n labels lent starts text) ≡ sheet_of (writing n labels lent starts other)
-  written-even text other e =
-      rw (writing_is text, writing_is other, fault-even text other e)
+  written_even : (text other : List ℕ) → length text ≡ length other → sheet_of (writing n labels lent starts text) ≡ sheet_of (writing n labels lent starts other)
+  written_even text other e =
+      rw (writing_is text, writing_is other, fault_even text other e)
       (go (sheet_text n labels lent starts) (write_fault n labels lent starts other) (eqb (write_fault n labels lent starts other).number 0))
     where
       go : (s : List ℕ) (f : Fault) (b : Bool) → sheet_of (outcome b f s text) ≡ sheet_of (outcome b f s other)
@@ -69,7 +69,7 @@ unfolding planned_text
 prints_sheet n labels lent starts order order' starts' out out' p w z h e f =
     let g : starts' ≡ (planning n lent (cleared 128 0) starts 1 1000).tables.1
     = ap (λ (x : Left Planned (List ℕ × List ℕ)). x.tables.1) e ∙ ap (λ (o : List ℕ). (planning n lent o starts 1 1000).tables.1) z in
-    ap sheet_of f ∙ written-even n labels lent starts' out (cleared 45489 0) (h ∙ sym (cleared_length 45489 0)) ∙ ap (λ (s : List ℕ). sheet_of (writing n labels lent s (cleared 45489 0))) g
+    ap sheet_of f ∙ written_even n labels lent starts' out (cleared 45489 0) (h ∙ sym (cleared_length 45489 0)) ∙ ap (λ (s : List ℕ). sheet_of (writing n labels lent s (cleared 45489 0))) g
 
 pub prints_within : (n : ℕ) (labels : List ℕ) (lent : Lent) (starts out out' : List ℕ) (w : SheetWritten) → length out ≡ 45489
     → ◌≡◌ {A = Left SheetWritten (List ℕ)} (left w out') (writing n labels lent starts out) → w.length ≤ 45489

@@ -35,52 +35,52 @@ none_whole p e = rw e
 
 -- a word that takes one argument more
 module _ (count : ℕ) (missing answer : List ℕ) where
-  one-missing : count ≡ 1 → with_one count missing answer ≡ missing
+  one_missing : count ≡ 1 → with_one count missing answer ≡ missing
   unfolding with_one
-  one-missing e = rw (eq-eqb count 1 e)
+  one_missing e = rw (eq-eqb count 1 e)
 
-  one-given : count ≢ 1 → count ≡ 2 → with_one count missing answer ≡ answer
+  one_given : count ≢ 1 → count ≡ 2 → with_one count missing answer ≡ answer
   unfolding with_one
-  one-given e f = rw (ne_eqb count 1 e, eq-eqb count 2 f)
+  one_given e f = rw (ne_eqb count 1 e, eq-eqb count 2 f)
 
-  one-many : count ≢ 1 → count ≢ 2 → with_one count missing answer ≡ words_text
+  one_many : count ≢ 1 → count ≢ 2 → with_one count missing answer ≡ words_text
   unfolding with_one
-  one-many e f = rw (ne_eqb count 1 e, ne_eqb count 2 f)
+  one_many e f = rw (ne_eqb count 1 e, ne_eqb count 2 f)
 
 module _ (count : ℕ) (first second input : List ℕ) where
   -- with the word `why`
   module _ (w : is_whole (word why_word first) ≡ true) where
-    why-word : asked count first second input ≡ with_one count no_label_text (cond (is_whole (label second)) (on_sheet refusal_text (why_text second) input) bad_label_text)
+    why_word_lem : asked count first second input ≡ with_one count no_label_text (cond (is_whole (label second)) (on_sheet refusal_text (why_text second) input) bad_label_text)
     unfolding asked
-    why-word = rw w
+    why_word_lem = rw w
 
     pub no_label : count ≡ 1 → asked count first second input ≡ no_label_text
-    no_label e = why-word ∙ one-missing count _ _ e
+    no_label e = why_word_lem ∙ one_missing count _ _ e
 
     pub many_words : count ≢ 1 → count ≢ 2 → asked count first second input ≡ words_text
-    many_words e f = why-word ∙ one-many count _ _ e f
+    many_words e f = why_word_lem ∙ one_many count _ _ e f
 
     pub asks_why : count ≢ 1 → count ≡ 2 → is_whole (label second) ≡ true → asked count first second input ≡ on_sheet refusal_text (why_text second) input
-    asks_why e f l = why-word ∙ one-given count _ _ e f ∙ rw l
+    asks_why e f l = why_word_lem ∙ one_given count _ _ e f ∙ rw l
 
     pub bad_label_lem : count ≢ 1 → count ≡ 2 → is_whole (label second) ≡ false → asked count first second input ≡ bad_label_text
-    bad_label_lem e f l = why-word ∙ one-given count _ _ e f ∙ rw l
+    bad_label_lem e f l = why_word_lem ∙ one_given count _ _ e f ∙ rw l
 
   module _ (w : is_whole (word why_word first) ≡ false) where
     -- with the word `order`
     module _ (o : is_whole (word order_word first) ≡ true) where
-      order-word : asked count first second input ≡ with_one count no_anchor_text (order_asked (signed second) input)
+      order_word_lem : asked count first second input ≡ with_one count no_anchor_text (order_asked (signed second) input)
       unfolding asked
-      order-word = rw (w, o)
+      order_word_lem = rw (w, o)
 
       pub no_anchor : count ≡ 1 → asked count first second input ≡ no_anchor_text
-      no_anchor e = order-word ∙ one-missing count _ _ e
+      no_anchor e = order_word_lem ∙ one_missing count _ _ e
 
       pub many_anchors : count ≢ 1 → count ≢ 2 → asked count first second input ≡ words_text
-      many_anchors e f = order-word ∙ one-many count _ _ e f
+      many_anchors e f = order_word_lem ∙ one_many count _ _ e f
 
       pub asks_order : count ≢ 1 → count ≡ 2 → asked count first second input ≡ order_asked (signed second) input
-      asks_order e f = order-word ∙ one-given count _ _ e f
+      asks_order e f = order_word_lem ∙ one_given count _ _ e f
 
     -- with another
     module _ (o : is_whole (word order_word first) ≡ false) where

@@ -21,15 +21,15 @@ halted number line labels widths guards starts b =
     λ i. record { answer = record { number = number; place = line; n = 0 }; tables = (b.blank_labels i, lend (b.blank_widths i) (b.blank_guards i), b.blank_starts i) }
 
 module _ (s labels widths guards starts : List ℕ) (b : Blank labels widths guards starts) where
-  from-blank : sheet_from labels (lend widths guards) starts s ≡ blank_sheet s
-  from-blank = λ i. sheet_from (b.blank_labels i) (lend (b.blank_widths i) (b.blank_guards i)) (b.blank_starts i) s
+  from_blank : sheet_from labels (lend widths guards) starts s ≡ blank_sheet s
+  from_blank = λ i. sheet_from (b.blank_labels i) (lend (b.blank_widths i) (b.blank_guards i)) (b.blank_starts i) s
 
   pub read_done : (n : ℕ) (labels' widths' guards' starts' : List ℕ) → sheet_from labels (lend widths guards) starts s ≡ done (n, labels', lend widths' guards', starts') []
       → ◌≡◌ {A = Answer} (left (record { number = 0; place = 0; n = n }) (labels', lend widths' guards', starts')) (read_outcome (blank_sheet s))
   unfolding read_outcome
-  read_done n labels' widths' guards' starts' z = sym (rw (← from-blank, z))
+  read_done n labels' widths' guards' starts' z = sym (rw (← from_blank, z))
 
   pub read_halt : (number line : ℕ) (labels' widths' guards' starts' : List ℕ) → sheet_from labels (lend widths guards) starts s ≡ halt number line → Blank labels' widths' guards' starts'
       → ◌≡◌ {A = Answer} (left (record { number = number; place = line; n = 0 }) (labels', lend widths' guards', starts')) (read_outcome (blank_sheet s))
   read_halt number line labels' widths' guards' starts' z k =
-      halted number line labels' widths' guards' starts' k ∙ ap read_outcome (sym z ∙ from-blank)
+      halted number line labels' widths' guards' starts' k ∙ ap read_outcome (sym z ∙ from_blank)

@@ -24,21 +24,21 @@ swap_packable n lent order need after a b t la lb e =
 
 -- one round: its swap is kept, or undone
 module _ (top : List ℕ → ℕ) (n : ℕ) (s : Standing) (order after : List ℕ) (x y a b h : ℕ) (ex : x ≡ draw s.state) (ey : y ≡ draw x) (ea : a ≡ drawn_place n x) (eb : b ≡ drawn_place n y) (e : after ≡ swapped order a b) (eh : h ≡ top after) where
-  state-is : state_after (run_of s order) ≡ y
+  state_is : state_after (run_of s order) ≡ y
   unfolding state_after
-  state-is = rw (← ex) (sym ey)
+  state_is = rw (← ex) (sym ey)
 
-  tried-is : tried n (run_of s order) ≡ after
+  tried_is : tried n (run_of s order) ≡ after
   unfolding tried
-  tried-is = rw (state-is, ← ex, ← ea, ← eb) (sym e)
+  tried_is = rw (state_is, ← ex, ← ea, ← eb) (sym e)
 
   pub round_kept : h < s.highest → run_of (record { state = y; highest = h; kept = s.kept + 1 }) after ≡ round top n (run_of s order)
   unfolding round
-  round_kept l = rw (state-is, tried-is, ← eh, lt-ltb h s.highest l, add-one s.kept)
+  round_kept l = rw (state_is, tried_is, ← eh, lt-ltb h s.highest l, add-one s.kept)
 
   pub round_undone : (back : List ℕ) → a < length order → b < length order → back ≡ swapped after a b → s.highest ≤ h → run_of (record { state = y; highest = s.highest; kept = s.kept }) back ≡ round top n (run_of s order)
   unfolding round
-  round_undone back la lb f l = rw (state-is, tried-is, ← eh, le-ltb h s.highest l, f, e, swapped_back order a b la lb)
+  round_undone back la lb f l = rw (state_is, tried_is, ← eh, le-ltb h s.highest l, f, e, swapped_back order a b la lb)
 
 -- any number of rounds
 pub round_more : (top : List ℕ → ℕ) (n k : ℕ) (r : Run) → (round top n r).kept ≤ suc r.kept

@@ -48,15 +48,15 @@ above u (suc v) h = rw (le-ltb u (suc v) h)
 
 -- the start that n gives: none where n lies below the centre of a block in slot 1
 module _ (k w u : ℕ) where
-  from-edge : grid_start (lowered k) w (lowered u) ≡ start_above (pos u +ℤ neg_ℤ (pos (k + w)))
+  from_edge : grid_start (lowered k) w (lowered u) ≡ start_above (pos u +ℤ neg_ℤ (pos (k + w)))
   unfolding grid_start
-  from-edge = ap (λ (x : ℤ). start_above (lowered u +ℤ neg_ℤ x)) (lowered_more k w) ∙ ap start_above (apart u (k + w))
+  from_edge = ap (λ (x : ℤ). start_above (lowered u +ℤ neg_ℤ x)) (lowered_more k w) ∙ ap start_above (apart u (k + w))
 
   pub start_under : u < k + w → grid_start (lowered k) w (lowered u) ≡ 0
-  start_under h = from-edge ∙ ap start_above (below u (k + w) h) ∙ (unfold start_above in refl)
+  start_under h = from_edge ∙ ap start_above (below u (k + w) h) ∙ (unfold start_above in refl)
 
   pub start_over : k + w ≤ u → grid_start (lowered k) w (lowered u) ≡ start_above (pos (u - (k + w)))
-  start_over h = from-edge ∙ ap start_above (above u (k + w) h)
+  start_over h = from_edge ∙ ap start_above (above u (k + w) h)
 
 -- a hyphen in front, or none
 after_hyphen : (l r : List ℕ) → word hyphen l ≡ some tt r → signed l ≡ below_zero (number r)

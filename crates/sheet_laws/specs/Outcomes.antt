@@ -18,18 +18,18 @@ module _ (sheet text : List ℕ) (t f : Fault) (e : f ≡ t) where
   abbrev written : Left SheetWritten (List ℕ)
   written = unless (t or_else room_fault sheet text) (refused_written text) (done_written sheet text)
 
-  its-number : t.number ≡ f.number
-  its-number = sym (ap (λ (x : Fault). x.number) e)
+  its_number : t.number ≡ f.number
+  its_number = sym (ap (λ (x : Fault). x.number) e)
 
   pub written_refused : f.number ≢ 0 → left (record { number = f.number; place = f.place; length = 0 }) text ≡ written
   unfolding unless
   written_refused d =
-      let q : (t or_else room_fault sheet text) ≡ f = or_first t (room_fault sheet text) (λ z. d (sym its-number ∙ z)) ∙ sym e in
+      let q : (t or_else room_fault sheet text) ≡ f = or_first t (room_fault sheet text) (λ z. d (sym its_number ∙ z)) ∙ sym e in
       sym (rw (q, ne_eqb f.number 0 d))
 
   module _ (z : f.number ≡ 0) where
     on : (t or_else room_fault sheet text) ≡ room_fault sheet text
-    on = or_second t (room_fault sheet text) (its-number ∙ z)
+    on = or_second t (room_fault sheet text) (its_number ∙ z)
 
     pub written_short : length text < length sheet → left (record { number = 16; place = 0; length = 0 }) text ≡ written
     unfolding unless

@@ -87,20 +87,20 @@ unfoldable pub around : (ℕ → ℕ) → ℕ → (ℕ → ℕ) → ℕ → ℕ
 around a m b i = cond (ltb i m) (a (m - i)) (b (i - m))
 
 module _ (a b : ℕ → ℕ) (m : ℕ) where
-  around-first : (i : ℕ) → i < m → around a m b i ≡ a (m - i)
+  around_first : (i : ℕ) → i < m → around a m b i ≡ a (m - i)
   unfolding around
-  around-first i l = rw (lt-ltb i m l)
+  around_first i l = rw (lt-ltb i m l)
 
-  around-second : (i : ℕ) → m ≤ i → around a m b i ≡ b (i - m)
+  around_second : (i : ℕ) → m ≤ i → around a m b i ≡ b (i - m)
   unfolding around
-  around-second i l = rw (le-ltb i m l)
+  around_second i l = rw (le-ltb i m l)
 
-  around-back : a 0 ≡ b 0 → (i : ℕ) → i < suc m → back (around a m b) m i ≡ a i
-  around-back e zero l = let z : m - 0 - m ≡ 0 = omega arith in around-second (m - 0) (omega arith) ∙ ap b z ∙ sym e
-  around-back e (suc i) l = let z : m - (m - suc i) ≡ suc i = omega arith in around-first (m - suc i) (omega arith) ∙ ap a z
+  around_back : a 0 ≡ b 0 → (i : ℕ) → i < suc m → back (around a m b) m i ≡ a i
+  around_back e zero l = let z : m - 0 - m ≡ 0 = omega arith in around_second (m - 0) (omega arith) ∙ ap b z ∙ sym e
+  around_back e (suc i) l = let z : m - (m - suc i) ≡ suc i = omega arith in around_first (m - suc i) (omega arith) ∙ ap a z
 
-  around-on : (i : ℕ) → on (around a m b) m i ≡ b i
-  around-on i = let z : m + i - m ≡ i = omega arith in around-second (m + i) (omega arith) ∙ ap b z
+  around_on : (i : ℕ) → on (around a m b) m i ≡ b i
+  around_on i = let z : m + i - m ≡ i = omega arith in around_second (m + i) (omega arith) ∙ ap b z
 
   -- what it goes through, and how long it is
   pub around_members : a 0 ≡ b 0 → (n : ℕ) → members (around a m b) (suc (m + n)) + power (b 0) ≡ members a (suc m) + members b (suc n)
@@ -108,10 +108,10 @@ module _ (a b : ℕ → ℕ) (m : ℕ) where
       let z : m - m ≡ 0 = omega arith in
       omega (
         arith,
-        ap power (around-second m (omega arith) ∙ ap b z),
+        ap power (around_second m (omega arith) ∙ ap b z),
         members_around (around a m b) m n,
-        members_same (back (around a m b) m) a (suc m) (around-back e),
-        members_same (on (around a m b) m) b (suc n) (λ i l. around-on i),
+        members_same (back (around a m b) m) a (suc m) (around_back e),
+        members_same (on (around a m b) m) b (suc n) (λ i l. around_on i),
       )
 
   pub around_steps : (guard : ℕ → ℕ → ℕ) (k n : ℕ) → ((i j : ℕ) → i < k → j < k → guard i j ≡ guard j i) → a 0 ≡ b 0 → Order (around a m b) k (suc (m + n))
@@ -120,8 +120,8 @@ module _ (a b : ℕ → ℕ) (m : ℕ) where
       omega (
         arith,
         steps_around guard k mirror (around a m b) m n ord,
-        steps_same guard k (back (around a m b) m) a m (around-back e),
-        steps_same guard k (on (around a m b) m) b n (λ i l. around-on i),
+        steps_same guard k (back (around a m b) m) a m (around_back e),
+        steps_same guard k (on (around a m b) m) b n (λ i l. around_on i),
       )
 
   -- an order where the second has nothing that the first has after its beginning
@@ -129,12 +129,12 @@ module _ (a b : ℕ → ℕ) (m : ℕ) where
   around_order k n x y apart = record { inside = λ i l. inside i l (dec_lt i m); fresh = λ i j h l. fresh i j h l (dec_lt i m) (dec_lt j m) }
     where
       inside : (i : ℕ) → i < suc (m + n) → Dec (i < m) → around a m b i < k
-      inside i l (yes h) = rw (around-first i h) (x.inside (m - i) (omega arith))
-      inside i l (no h) = rw (around-second i (omega arith)) (y.inside (i - m) (omega arith))
+      inside i l (yes h) = rw (around_first i h) (x.inside (m - i) (omega arith))
+      inside i l (no h) = rw (around_second i (omega arith)) (y.inside (i - m) (omega arith))
 
       fresh : (i j : ℕ) → i < j → j < suc (m + n) → Dec (i < m) → Dec (j < m) → around a m b i ≢ around a m b j
-      fresh i j h l (yes p) (yes q) = λ e. x.fresh (m - j) (m - i) (omega arith) (omega arith) (sym (around-first j q) ∙ sym e ∙ around-first i p)
+      fresh i j h l (yes p) (yes q) = λ e. x.fresh (m - j) (m - i) (omega arith) (omega arith) (sym (around_first j q) ∙ sym e ∙ around_first i p)
       fresh i j h l (yes p) (no q) = λ e.
-          apart (m - suc i) (j - m) (omega arith) (omega arith) (ap a (omega arith) ∙ sym (around-first i p) ∙ e ∙ around-second j (omega arith))
+          apart (m - suc i) (j - m) (omega arith) (omega arith) (ap a (omega arith) ∙ sym (around_first i p) ∙ e ∙ around_second j (omega arith))
       fresh i j h l (no p) (yes q) = absurd (omega arith)
-      fresh i j h l (no p) (no q) = λ e. y.fresh (i - m) (j - m) (omega arith) (omega arith) (sym (around-second i (omega arith)) ∙ e ∙ around-second j (omega arith))
+      fresh i j h l (no p) (no q) = λ e. y.fresh (i - m) (j - m) (omega arith) (omega arith) (sym (around_second i (omega arith)) ∙ e ∙ around_second j (omega arith))

@@ -59,9 +59,9 @@ module _ (guard : ℕ → ℕ → ℕ) (last : ℕ) (good : Walkable guard (suc 
   twice = refl
 
   -- the way on is the least walk from the last position through it and the set
-  away-least : (s : ℕ) → s < half → Least guard (suc last) (s + half) last (away walks guards s)
+  away_least : (s : ℕ) → s < half → Least guard (suc last) (s + half) last (away walks guards s)
   unfolding away
-  away-least s l = go (eqb s 0) refl
+  away_least s l = go (eqb s 0) refl
     where
       less : s + half - half ≡ s
       less = omega arith
@@ -101,33 +101,33 @@ module _ (guard : ℕ → ℕ → ℕ) (last : ℕ) (good : Walkable guard (suc 
     abbrev other : ℕ
     other = members (on o m) (suc (last - m)) - half
 
-    own-one : one + half ≡ members (back o m) (suc m)
-    own-one = omega (arith, power_le (members (back o m) (suc m)) last (through_own guard (suc last) _ last (back o m) m before))
+    own_one : one + half ≡ members (back o m) (suc m)
+    own_one = omega (arith, power_le (members (back o m) (suc m)) last (through_own guard (suc last) _ last (back o m) m before))
 
-    own-other : other + half ≡ members (on o m) (suc (last - m))
-    own-other = omega (arith, power_le (members (on o m) (suc (last - m))) last (through_own guard (suc last) _ last (on o m) (last - m) after))
+    own_other : other + half ≡ members (on o m) (suc (last - m))
+    own_other = omega (arith, power_le (members (on o m) (suc (last - m))) last (through_own guard (suc last) _ last (on o m) (last - m) after))
 
     rest : one + other ≡ half - 1
-    rest = omega (arith, own-one, own-other, members_around o m (last - m), ap (λ x. members o (suc x)) split, members_all o (suc last) ord, twice, ap power here, power_pos last)
+    rest = omega (arith, own_one, own_other, members_around o m (last - m), ap (λ x. members o (suc x)) split, members_all o (suc last) ord, twice, ap power here, power_pos last)
 
     low : (r : ℕ) → r ≡ least_joined walks guards half ((half + 1) / 2) → r ≤ steps guard (suc last) o last
     unfolding least_joined
     low r e = go (dec_lt one ((half + 1) / 2))
       where
-        away-le : away walks guards one + away walks guards other ≤ steps guard (suc last) o last
-        away-le =
+        away_le : away walks guards one + away walks guards other ≤ steps guard (suc last) o last
+        away_le =
             omega (
               arith,
               cost,
-              (rw own-one at (away-least one (omega (arith, rest, power_pos last)))).low (back o m) m before,
-              (rw own-other at (away-least other (omega (arith, rest, power_pos last)))).low (on o m) (last - m) after,
+              (rw own_one at (away_least one (omega (arith, rest, power_pos last)))).low (back o m) m before,
+              (rw own_other at (away_least other (omega (arith, rest, power_pos last)))).low (on o m) (last - m) after,
             )
 
         go : Dec (one < (half + 1) / 2) → r ≤ steps guard (suc last) o last
-        go (yes h) = let q : half - 1 - one ≡ other = omega (arith, rest) in omega (arith, away-le, ap (away walks guards) q, least_le 255 both ((half + 1) / 2) one h)
+        go (yes h) = let q : half - 1 - one ≡ other = omega (arith, rest) in omega (arith, away_le, ap (away walks guards) q, least_le 255 both ((half + 1) / 2) one h)
         go (no h) =
             let q : half - 1 - other ≡ one = omega (arith, rest) in
-            omega (arith, away-le, ap (away walks guards) q, least_le 255 both ((half + 1) / 2) other (omega (arith, rest, power_pos last)))
+            omega (arith, away_le, ap (away walks guards) q, least_le 255 both ((half + 1) / 2) other (omega (arith, rest, power_pos last)))
 
   -- a position of a set with the last one, and not that one, is in the set without it
   without : (s : ℕ) → s < half → (i : ℕ) → i ≢ last → has (s + half) i ≡ true → has s i ≡ true
@@ -174,7 +174,7 @@ module _ (guard : ℕ → ℕ → ℕ) (last : ℕ) (good : Walkable guard (suc 
           let small = good.small in
           let p = power_pos last in
           let l : s < half = omega arith in
-          let x = (away-least s l).some (omega arith) in
-          let y = (away-least (half - 1 - s) (omega arith)).some (omega arith) in
+          let x = (away_least s l).some (omega arith) in
+          let y = (away_least (half - 1 - s) (omega arith)).some (omega arith) in
           through_shortest guard (suc last) (around x.0 x.1 y.0 0) r (around x.0 x.1 y.0) (x.1 + y.1) (through s l x.0 y.0 x.1 y.1 x.2 y.2)
           (joined s l x.0 y.0 x.1 y.1 x.2 y.2 r (omega (arith, x.3, y.3))) below

@@ -51,13 +51,13 @@ module _ (guard : ℕ → ℕ → ℕ) (k : ℕ) where
     pub low : (o : ℕ → ℕ) (m : ℕ) → Through s j o m → v ≤ steps o m
     pub some : v < 255 → (o : ℕ → ℕ) × (m : ℕ) × Through s j o m × (v ≡ steps o m)
 
-  through-has : (s j : ℕ) (o : ℕ → ℕ) (m : ℕ) → Through s j o m → (i : ℕ) → has s i ≡ placed o (suc m) i
-  through-has s j o m t i = rw (sym t.all) (members_have o k (suc m) t.order i)
+  through_has : (s j : ℕ) (o : ℕ → ℕ) (m : ℕ) → Through s j o m → (i : ℕ) → has s i ≡ placed o (suc m) i
+  through_has s j o m t i = rw (sym t.all) (members_have o k (suc m) t.order i)
 
   -- the positions on a walk are in its set
   pub through_at : (s j : ℕ) (o : ℕ → ℕ) (m : ℕ) → Through s j o m → (i : ℕ) → i < suc m → has s (o i) ≡ true
   unfolding placed
-  through_at s j o m t i l = through-has s j o m t (o i) ∙ found_at (λ x. eqb (o x) (o i)) (suc m) i l (eq-eqb (o i) (o i) refl)
+  through_at s j o m t i l = through_has s j o m t (o i) ∙ found_at (λ x. eqb (o x) (o i)) (suc m) i l (eq-eqb (o i) (o i) refl)
 
   pub through_own : (s j : ℕ) (o : ℕ → ℕ) (m : ℕ) → Through s j o m → has s j ≡ true
   through_own s j o m t = ap (has s) (sym t.begins) ∙ through_at s j o m t 0 (omega arith)
@@ -72,9 +72,9 @@ module _ (guard : ℕ → ℕ → ℕ) (k : ℕ) where
   steps_front : (o : ℕ → ℕ) (m : ℕ) → steps o (suc m) ≡ guard (o 0) (o 1) + steps (λ i. o (suc i)) m
   steps_front o m = sum_front (λ i. guard (o i) (o (suc i))) m
 
-  members-front : (o : ℕ → ℕ) (m : ℕ) → members o (suc m) ≡ power (o 0) + members (λ i. o (suc i)) m
+  members_front : (o : ℕ → ℕ) (m : ℕ) → members o (suc m) ≡ power (o 0) + members (λ i. o (suc i)) m
   unfolding members
-  members-front o m = sum_front (λ i. power (o i)) m
+  members_front o m = sum_front (λ i. power (o i)) m
 
   -- a walk through one position has no guards
   pub least_alone : (j : ℕ) → j < k → Least (power j) j 0
@@ -90,7 +90,7 @@ module _ (guard : ℕ → ℕ → ℕ) (k : ℕ) where
   least_onward s j v row own more rows few l e = record { low = low; some = some }
     where
       low : (o : ℕ → ℕ) (m : ℕ) → Through s j o m → v ≤ steps o m
-      low o zero t = absurd (omega (arith, members-front o 0, t.all, ap power t.begins, none))
+      low o zero t = absurd (omega (arith, members_front o 0, t.all, ap power t.begins, none))
         where
           none : members (λ i. o (suc i)) 0 ≡ 0
           none = unfold members sum in refl
@@ -98,7 +98,7 @@ module _ (guard : ℕ → ℕ → ℕ) (k : ℕ) where
           let next : Through (s - power j) (o 1) (λ i. o (suc i)) m = record {
             order = rest_order o k (suc m) t.order;
             begins = refl;
-            all = omega (arith, members-front o (suc m), t.all, ap power t.begins);
+            all = omega (arith, members_front o (suc m), t.all, ap power t.begins);
           } in
           let inside = t.order.inside 1 (omega arith) in
           let here = least_le 255 (λ i. guard j i + row i) 8 (o 1) (omega arith) in
@@ -111,7 +111,7 @@ module _ (guard : ℕ → ℕ → ℕ) (k : ℕ) where
       joined i z o m t q = (before j o, suc m, record { order = order; begins = begins; all = all }, z ∙ omega (arith, walked))
         where
           free : placed o (suc m) j ≡ false
-          free = sym (through-has (s - power j) i o m t j) ∙ has_taken s j own
+          free = sym (through_has (s - power j) i o m t j) ∙ has_taken s j own
 
           order : Order (before j o) k (suc (suc m))
           order = record {
@@ -123,7 +123,7 @@ module _ (guard : ℕ → ℕ → ℕ) (k : ℕ) where
           begins = unfold before in refl
 
           all : members (before j o) (suc (suc m)) ≡ s
-          all = unfold before in omega (arith, members-front (before j o) (suc m), t.all, power_le s j own)
+          all = unfold before in omega (arith, members_front (before j o) (suc m), t.all, power_le s j own)
 
           walked : steps (before j o) (suc m) ≡ guard j i + row i
           walked = unfold before in omega (arith, steps_front (before j o) m, q, ap (guard j) t.begins)
@@ -142,7 +142,7 @@ module _ (guard : ℕ → ℕ → ℕ) (k : ℕ) where
       pick : Dec (suc m < k) → suc m ≡ k
       pick (yes l) =
           let x = count_some (placed o (suc m)) k (omega (arith, count_placed o k (suc m) t.order)) in
-          absurd (true≢false (sym (has_all k x.0 x.1) ∙ through-has (power k - 1) i o m t x.0 ∙ x.2))
+          absurd (true≢false (sym (has_all k x.0 x.1) ∙ through_has (power k - 1) i o m t x.0 ∙ x.2))
       pick (no g) = omega (arith, count_placed o k (suc m) t.order, count_le (placed o (suc m)) k)
 
   -- a walk through all that no order is below is the shortest

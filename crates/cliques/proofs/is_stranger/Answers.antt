@@ -6,8 +6,8 @@ use borrow.Author.Tests.{eq-eqb, ne_eqb, ltb-true, ltb-false, le-leb, lt-leb}
 use borrow.Author.Rules.{rules}
 use Rattle.cliques.proofs.is_stranger.Goals as goal
 
-no-conflict : (g : ℕ) → leb 255 g ≡ not (ltb g 255)
-no-conflict g = go (ltb g 255) refl
+no_conflict : (g : ℕ) → leb 255 g ≡ not (ltb g 255)
+no_conflict g = go (ltb g 255) refl
   where
     go : (b : Bool) → ltb g 255 ≡ b → leb 255 g ≡ not b
     go true e = lt-leb 255 g (ltb-true g 255 e)
@@ -17,4 +17,4 @@ pub returns-then-path_at : goal.returns-then-path_at
 returns-then-path_at c = rw (eq-eqb _ _ (sym c.path_at.ensures ∙ c.if-path_at.true ∙ c.path_at-2.ensures))
 
 pub returns : goal.returns
-returns c = rw (ne_eqb _ _ (λ e. c.if-path_at.false (c.path_at.ensures ∙ e ∙ sym c.path_at-2.ensures)), ← c.guard_of-g.ensures) (no-conflict c.guard_of-g.result)
+returns c = rw (ne_eqb _ _ (λ e. c.if-path_at.false (c.path_at.ensures ∙ e ∙ sym c.path_at-2.ensures)), ← c.guard_of-g.ensures) (no_conflict c.guard_of-g.result)

@@ -13,8 +13,8 @@ use Rattle.table_laws.specs.Faults.{scan_at, scan_none}
 use Rattle.cliques.specs.Listed.{stranger}
 use Rattle.cliques.proofs.member_fault.Goals as goal
 
-bad-entry : (n x : ℕ) (b : Bool) → b ≡ true → (leb n x || b) ≡ true
-bad-entry n x b e = rw e (go (leb n x))
+bad_entry_lem : (n x : ℕ) (b : Bool) → b ≡ true → (leb n x || b) ≡ true
+bad_entry_lem n x b e = rw e (go (leb n x))
   where
     go : (a : Bool) → (a || true) ≡ true
     go true = refl
@@ -33,7 +33,7 @@ has_stranger-requires c =
     record { full_guards = c.requires.1; room = omega arith; inside = below_more _ _ (λ i l. omega (arith, c.loop-k.invariant.1 i l, c.requires.0)) (entry) }
 
 pub returns-then-has_stranger : goal.returns-then-has_stranger
-returns-then-has_stranger c = λ lent q. rw q (c.refused-then-has_stranger.ensures ∙ sym (scan_at 15 _ _ _ c.loop-k.invariant.2 (bad-entry c.args.n (at c.args.list.now c.loop-k.k) _ (sym c.has_stranger.ensures ∙ c.if-has_stranger.true)) c.loop-k-test.true))
+returns-then-has_stranger c = λ lent q. rw q (c.refused-then-has_stranger.ensures ∙ sym (scan_at 15 _ _ _ c.loop-k.invariant.2 (bad_entry_lem c.args.n (at c.args.list.now c.loop-k.k) _ (sym c.has_stranger.ensures ∙ c.if-has_stranger.true)) c.loop-k-test.true))
 
 pub loop-k-preserved : goal.loop-k-preserved
 loop-k-preserved c =

@@ -1,6 +1,6 @@
 use borrow.Author.Rules.{rules}
 use mathlib.Core.Path.{refl}
-use Rattle.plan_laws.specs.Reason.{asksOf, asks_told, bottom_first, bottom_more, bottom_last}
+use Rattle.plan_laws.specs.Reason.{asks_of, asks_told, bottom_first, bottom_more, bottom_last}
 use Rattle.rules.specs.Scan.{largest}
 use Rattle.rules.specs.Plan.{net_of}
 use Rattle.rules.specs.Tables.{at, lend}

@@ -8,11 +8,11 @@ use lib.ListN.{length, get_or, drop}
 use Rattle.rules.specs.Text.{run, is_digit, value_from}
 use Rattle.text.proofs.value.Goals as goal
 
-digits-none : (a : ℕ) → 0 < 10 ^ (a - a)
-digits-none a = let e : a - a ≡ 0 = omega arith in rw e (lit< tt)
+digits_none : (a : ℕ) → 0 < 10 ^ (a - a)
+digits_none a = let e : a - a ≡ 0 = omega arith in rw e (lit< tt)
 
 pub loop-i-init : goal.loop-i-init
-loop-i-init c = (refl, omega arith, omega arith, digits-none c.args.place)
+loop-i-init c = (refl, omega arith, omega arith, digits_none c.args.place)
 
 pub overflow_mul-v : goal.overflow_mul-v
 overflow_mul-v c = omega (arith, digits_few c.loop-i.v c.args.place c.loop-i.i 5 (omega arith) c.loop-i.invariant.3)
