@@ -1,0 +1,12 @@
+use mathlib.Core.Path.{ap, ◌∙◌}
+use lib.IntN.{ℤ}
+use mir.Facts.{to_z-of_z}
+use Rattle.rules.specs.Tables.{lend}
+use Rattle.rules.specs.Calls.{order_writing}
+use borrow.Author.Rules.{rules}
+use Rattle.nesbrunka.proofs.nesbrunka_order_write.Goals as goal
+
+pub returns : goal.returns
+returns c =
+    c.order_write.ensures
+    ∙ ap (λ (z : ℤ). order_writing z c.args.n c.args.labels.now (lend c.args.widths.now c.args.guards.now) c.args.starts.now c.args.text.now) (to_z-of_z c.ranges.anchor)
