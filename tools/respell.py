@@ -71,7 +71,7 @@ def main():
             for name in names:
                 if "-" in name:
                     turn[name] = new + LEMMA
-    wrong = [n for n, k in collections.Counter(turn.values()).items() if k > 1 or n in own]
+    wrong = [n for n, k in collections.Counter(turn.values()).items() if k > 1]
     # A word that stands already in a file of the name, as a variable there, would be caught.
     for path in antt():
         if path.endswith("/Proof.antt"):
