@@ -9,7 +9,7 @@ use borrow.Author.Tests.{eq-eqb, ne_eqb, lt-ltb, le-ltb}
 use Rattle.std.specs.Borrow.{Bor}
 use Rattle.rules.specs.declared.Packed.{Packed}
 use Rattle.rules.specs.Tables.{at, cleared, Lent}
-use Rattle.rules.specs.Plan.{net_of, highest}
+use Rattle.rules.specs.Plan.{net_of}
 use Rattle.rules.specs.Packing.{Order, lowest, packed}
 use Rattle.rules.specs.Numbers.{size_fault, plan_sizes, pack_fault}
 use Rattle.rules.specs.Calls.{refused_packed, done_packed, packing}

@@ -1,6 +1,6 @@
 -- The plan program: for every sheet that is read it prints that sheet with a valid plan, which is itself
 -- read back; for every other input it prints the refusal of the first line at fault. Assumes nothing.
-use Prim.Native.Nat.{ℕ, ◌+◌, ◌≤◌}
+use Prim.Native.Nat.{ℕ, ◌≤◌}
 use Rattle.std.specs.Prelude.{◌≡◌, refl, ◌≢◌, Bool, true, eqb}
 use Rattle.std.proofs.Common.{sym, ◌∙◌, eq-eqb, ne_eqb}
 use Rattle.std.proofs.Math.Path.{ap}

@@ -14,7 +14,7 @@ use Rattle.std.proofs.Math.Dec.{ltb, leb}
 use borrow.Author.Tests.{ltb-true, leb-true, le-ltb, eqb-false, ne_eqb, not-true}
 use Rattle.rules.specs.Tables.{at, cell, cleared, label_byte, Lent, lend, cleared_network}
 use Rattle.rules.specs.Scan.{first, found, sum}
-use Rattle.rules.specs.Text.{Parsed, none, some, then, paths_word, guards_word, starts_word, is_digit, is_label_byte, run, label, number}
+use Rattle.rules.specs.Text.{Parsed, none, some, then, paths_word, guards_word, starts_word, is_digit, is_label_byte, run, label}
 use Rattle.rules.specs.Sheet.{is_row, find, bytes_from, put_row, Line, wrong, right, Section, halt, done, follow, lines, count_line, path_line, guard_line, path_means, path_step, guard_cell, guard_means, guard_step, start_means, start_step, counted, after, ended, last_part, starts_part, guards_part, sheet_from}
 use Rattle.rules.specs.Writing.{label_of, bad_label, label_twice, is_pair, pairs, has_plan}
 use Rattle.rules.specs.Numbers.{sheet_sizes}

@@ -12,7 +12,7 @@ use Rattle.std.proofs.Math.Decide.{dec_lt}
 use borrow.Author.Tests.{eqb-true, eq-eqb}
 use Rattle.rules.specs.declared.SheetWritten.{SheetWritten}
 use Rattle.rules.specs.Tables.{at, cleared, Lent, cleared_network}
-use Rattle.rules.specs.Text.{some, paths_word, guards_word, starts_word}
+use Rattle.rules.specs.Text.{paths_word, guards_word, starts_word}
 use Rattle.rules.specs.Sheet.{done, lines, count_line, path_step, start_step, after, starts_part, guards_part, sheet_from}
 use Rattle.rules.specs.Writing.{pairs, has_plan, join_from, count_text, path_text, guard_text, paths_text, guards_text, starts_text, sheet_text}
 use Rattle.rules.specs.Numbers.{sheet_sizes, write_fault}

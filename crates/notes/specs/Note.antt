@@ -2,7 +2,6 @@
 -- Assumes nothing.
 use Rattle.std.specs.Prelude.{ℕ, min, ◌≡◌, refl, Bool, true, false, List, ◌++◌}
 use Rattle.rules.specs.Text.{bytes, spell, numeral}
-use Rattle.rules.specs.Writing.{pairs}
 
 -- some words and a number. A number over 99,999 would stand as that; none is: a highest slot is at most
 -- 12,256, and 1,000 rounds are run

@@ -1,5 +1,5 @@
 -- Of two conflicting paths of a valid plan one is clear below the other, and so lower. Assumes nothing.
-use Rattle.std.specs.Prelude.{ℕ, ◌-◌, ◌<◌, ◌≡◌, ◌⊎◌}
+use Rattle.std.specs.Prelude.{ℕ, ◌<◌, ◌≡◌, ◌⊎◌}
 use Rattle.std.proofs.Common.{subst, inl, inr, arith}
 use Rattle.std.proofs.Math.Decide.{dec_lt}
 use Rattle.rules.specs.Plan.{Net, Conflict, Clear, Valid}

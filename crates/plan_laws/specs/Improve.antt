@@ -1,5 +1,5 @@
 -- Improving an order. Assumes nothing.
-use Prim.Native.Nat.{ℕ, zero, suc, ◌+◌, ◌-◌, ◌/◌, ◌≤◌, ◌<◌}
+use Prim.Native.Nat.{ℕ, zero, suc, ◌+◌, ◌/◌, ◌≤◌, ◌<◌}
 use Rattle.std.specs.Prelude.{◌≡◌, ◌≢◌, Bool, cond, List, length, set, ltb}
 use Rattle.std.proofs.Math.Path.{refl}
 use Rattle.std.proofs.Common.{sym, ap, ◌∙◌, mul-le-mul_right, length-set, ext_get_or, lt-ltb, le-ltb}

@@ -9,7 +9,7 @@ use native.Mathlib.Omega.{arith}
 use Rattle.std.proofs.Math.Decide.{dec_lt}
 use Rattle.rules.specs.Tables.{Lent}
 use Rattle.rules.specs.Scan.{sum}
-use Rattle.rules.specs.Plan.{net_of, highest}
+use Rattle.rules.specs.Plan.{net_of}
 use Rattle.rules.specs.Packing.{lowest, height}
 use Rattle.rules.specs.Planning.{Run, draw, state_after, tried, round, rounds, improved}
 use Rattle.plan_laws.specs.Answers.{Packable}

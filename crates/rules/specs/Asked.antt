@@ -1,6 +1,6 @@
 -- RULES 25 and 26: worked figures of the call `why` and of the ask program, computed from the definitions over
 -- tables of full size. Assumes nothing.
-use Rattle.std.specs.Prelude.{ℕ, ◌+◌, ◌≡◌, refl, List, [], ◌∷◌, ◌++◌, take, replicate}
+use Rattle.std.specs.Prelude.{ℕ, ◌≡◌, refl, List, [], ◌∷◌, ◌++◌, take, replicate}
 use Prim.Native.String.{String}
 use Rattle.rules.specs.declared.Why.{Why}
 use Rattle.rules.specs.Tables.{cleared, Lent, lend}

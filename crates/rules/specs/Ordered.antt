@@ -1,6 +1,6 @@
 -- RULES 27: worked figures of the centre and of the order sheet, computed from the definitions over tables of full
 -- size. Assumes nothing.
-use Rattle.std.specs.Prelude.{ℕ, ◌+◌, ◌≡◌, refl, false, List, [], ◌∷◌, ◌++◌, take, ℤ, pos, negsuc}
+use Rattle.std.specs.Prelude.{ℕ, ◌≡◌, refl, false, List, [], ◌∷◌, ◌++◌, take, ℤ, pos, negsuc}
 use Prim.Native.String.{String}
 use Rattle.std.specs.Float.{fin}
 use Rattle.std.specs.Float.Ieee.{round}

@@ -1,5 +1,5 @@
 -- RULES 15, the sheet as it is written. Assumes nothing.
-use Rattle.std.specs.Prelude.{ℕ, zero, suc, ◌+◌, ◌*◌, Bool, cond, not, ◌&&◌, ◌||◌, List, [], ◌++◌, length, take, drop, ltb, eqb}
+use Rattle.std.specs.Prelude.{ℕ, zero, suc, ◌*◌, Bool, cond, not, ◌&&◌, ◌||◌, List, [], ◌++◌, length, take, drop, ltb, eqb}
 use Rattle.rules.specs.Tables.{at, cell, Lent}
 use Rattle.rules.specs.Scan.{found, sum}
 use Rattle.rules.specs.Text.{space, line_feed, paths_word, guards_word, starts_word, is_label_byte, run, numeral}

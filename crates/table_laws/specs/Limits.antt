@@ -1,6 +1,6 @@
 -- The tests and the limits: each chain of tests finds no fault exactly where the limits of RULES 3 hold.
 -- Assumes nothing.
-use Rattle.std.specs.Prelude.{ℕ, ◌≤◌, ◌<◌, ◌≡◌, refl, ◌≢◌, ◌⊎◌, Bool, true, false, not, ◌||◌, ◌&&◌, List, length, ltb, leb, eqb}
+use Rattle.std.specs.Prelude.{ℕ, ◌≤◌, ◌<◌, ◌≡◌, refl, ◌⊎◌, Bool, true, false, not, ◌||◌, ◌&&◌, List, length, ltb, leb, eqb}
 use Rattle.std.proofs.Common.{sym, ap, subst, inl, inr, true≢false, arith, ltb-false, leb-false, lt-ltb, le-ltb, eq-eqb, ne_eqb, eqb-true}
 use Rattle.std.proofs.Math.Decide.{dec_lt}
 use Rattle.std.proofs.lemmas.Bool.{lt-leb}
@@ -9,7 +9,6 @@ use Rattle.rules.specs.Tables.{at, cell, Lent}
 use Rattle.rules.specs.Limits.{Network, Starts}
 use Rattle.rules.specs.Packing.{placed, Order, Once}
 use Rattle.rules.specs.Numbers.{nowhere_short, no_fault, outside, count_fault, bad_width, bad_guard, bad_mirror, bad_entry, order_fault, bad_start, start_fault, network_fault, network_sizes}
-use Rattle.table_laws.specs.Scans.{some}
 use Rattle.table_laws.specs.Faults.{refuse_not, refuse_clear, or_clear, or_none, scan_none, scan_clear, square_none, square_clear, size_good, size_clear}
 use Rattle.table_laws.specs.Orders.{placed_none, placed_not, place, spot, spot_holds, spots}
 

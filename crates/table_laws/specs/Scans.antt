@@ -1,5 +1,5 @@
 -- The laws of the one scan, of the largest, the least and the sum, each once. Assumes nothing.
-use Rattle.std.specs.Prelude.{ℕ, zero, suc, ◌+◌, ◌*◌, ◌≤◌, ◌<◌, max, min, ◌≡◌, refl, ◌≢◌, ◌⊎◌, Bool, true, false, ◌&&◌, ◌||◌, ltb}
+use Rattle.std.specs.Prelude.{ℕ, zero, suc, ◌+◌, ◌*◌, ◌≤◌, ◌<◌, max, min, ◌≡◌, refl, ◌⊎◌, Bool, true, false, ◌&&◌, ◌||◌, ltb}
 use Rattle.std.proofs.Common.{suc-le-suc, sym, ap, ◌∙◌, inl, inr, true≢false, arith, le_of_suc-le-suc, zero-lt-suc, add-zero, add-one, lt-ltb, le-ltb, ltb-true, ltb-false}
 use Rattle.std.proofs.lemmas.Bool.{false≢true}
 use Rattle.std.proofs.Math.Decide.{dec_lt}

@@ -3,7 +3,6 @@ use Rattle.rules.specs.Tables.{lend}
 use Rattle.rules.specs.Asking.{valid_text, refused_text, judge_text}
 use Rattle.answers.proofs.Answers.{judge_told, judge_refused, judge_valid, judge_within}
 use Rattle.answers.proofs.Answers.{retold}
-use borrow.Author.Rules.{rules}
 use native.Mathlib.Omega.{arith}
 use Rattle.answers.proofs.judge_text.Goals as goal
 

@@ -11,7 +11,6 @@ use Rattle.table_laws.specs.Tables.{cleared_length}
 use Rattle.sheet_laws.specs.Grid.{lowered}
 use Rattle.grid.proofs.Anchors.{lowered_on}
 use Rattle.answers.proofs.Answers.{retold, judge_told, order_refused, order_done, order_within, blank_order}
-use borrow.Author.Rules.{rules}
 use Rattle.answers.proofs.order_text.Goals as goal
 
 pub put_refused-requires : goal.put_refused-requires

@@ -1,12 +1,9 @@
-use Prim.Native.Nat.{ℕ}
 use mathlib.Core.Path.{sym, subst}
-use mathlib.Core.List.{List}
 use Rattle.rules.specs.Tables.{lend}
 use Rattle.spelling.specs.Says.{Wrote}
 use Rattle.questions.specs.Asks.{topic_text, Fit}
 use Rattle.questions.specs.declared.Topic.{Topic}
 use Rattle.questions.specs.declared.Topic.TheVariants.{Reason, Order}
-use borrow.Author.Rules.{rules}
 use Rattle.answers.proofs.topic_text.Goals as goal
 
 pub why_text-requires : goal.why_text-requires

@@ -4,7 +4,6 @@ use Rattle.rules.specs.Plan.{net_of}
 use Rattle.rules.specs.Asking.{reason_text, refused_text, why_text}
 use Rattle.answers.proofs.Answers.{why_refused, why_done, why_told, why_chained, why_front, why_within, why_down, blank_chain}
 use Rattle.answers.proofs.Answers.{retold}
-use borrow.Author.Rules.{rules}
 use Rattle.answers.proofs.why_text.Goals as goal
 
 pub put_refused-requires : goal.put_refused-requires

@@ -3,7 +3,6 @@ use Rattle.rules.specs.Asking.{no_label_text, bad_label_text, no_anchor_text, ba
 use Rattle.questions.specs.declared.Question.TheVariants.{Sheet, NoLabel, BadLabel, NoAnchor, BadAnchor, NoWord}
 use Rattle.questions.specs.Asks.{topic_text, Asks}
 use Rattle.asking.proofs.Making.{made_asked, made_said}
-use borrow.Author.Rules.{rules}
 use Rattle.asking.proofs.answer.Goals as goal
 
 pub sheet_answer-requires : goal.sheet_answer-requires

@@ -3,7 +3,6 @@ use native.Mathlib.Omega.{arith}
 use Rattle.rules.specs.Tables.{at, lend}
 use Rattle.rules.specs.Plan.{net_of}
 use Rattle.plan_laws.specs.Clash.{pair_lack}
-use borrow.Author.Rules.{rules}
 use Rattle.clashes.proofs.cell_short.Goals as goal
 
 pub pair_short-requires : goal.pair_short-requires

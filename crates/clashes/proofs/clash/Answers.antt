@@ -1,7 +1,6 @@
 use Rattle.rules.specs.Tables.{at, lend}
 use Rattle.rules.specs.Plan.{net_of}
 use Rattle.plan_laws.specs.Clash.{clash_told}
-use borrow.Author.Rules.{rules}
 use Rattle.clashes.proofs.clash.Goals as goal
 
 pub returns : goal.returns

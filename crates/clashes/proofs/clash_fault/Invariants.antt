@@ -1,15 +1,9 @@
 use Prim.Native.Nat.{ℕ, ◌≤◌, ◌<◌, ◌-◌}
-use mathlib.Core.Path.{◌≡◌, sym, ◌∙◌}
+use mathlib.Core.Path.{◌≡◌}
 use mathlib.Core.Bool.{false}
-use native.Mathlib.Omega.{arith}
-use borrow.Author.Count.{below_none, below_more}
 use Rattle.rules.specs.Tables.{at, lend}
 use Rattle.rules.specs.Scan.{found}
-use Rattle.rules.specs.Plan.{net_of, short, too_close}
-use Rattle.rules.specs.Numbers.{clash_fault}
-use Rattle.table_laws.specs.Faults.{square_rows, square_hit, row_miss}
-use Rattle.plan_laws.specs.Clash.{row_close}
-use borrow.Author.Rules.{rules}
+use Rattle.rules.specs.Plan.{net_of, too_close}
 use Rattle.clashes.proofs.clash_fault.Given as goal
 
 abbrev pub invariant-loop-i : goal.invariant-loop-i

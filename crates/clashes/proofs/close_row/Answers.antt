@@ -2,7 +2,6 @@ use Rattle.rules.specs.Tables.{at, lend}
 use Rattle.rules.specs.Plan.{net_of, too_close}
 use Rattle.table_laws.specs.Scans.{first_none}
 use mathlib.Core.Path.{sym}
-use borrow.Author.Rules.{rules}
 use Rattle.clashes.proofs.close_row.Goals as goal
 
 pub returns-then-row_short-eq0 : goal.returns-then-row_short-eq0

@@ -1,13 +1,8 @@
 use Prim.Native.Nat.{ℕ, ◌≤◌, ◌<◌, ◌-◌}
-use mathlib.Core.Path.{◌≡◌, sym, ◌∙◌}
+use mathlib.Core.Path.{◌≡◌}
 use mathlib.Core.Bool.{false}
-use native.Mathlib.Omega.{arith}
-use borrow.Author.Count.{below_more}
 use Rattle.rules.specs.Tables.{at, lend}
 use Rattle.rules.specs.Plan.{net_of, too_close}
-use Rattle.table_laws.specs.Scans.{first_none, first_at}
-use Rattle.plan_laws.specs.Clash.{lack_none, lack_some, close_before}
-use borrow.Author.Rules.{rules}
 use Rattle.clashes.proofs.close_search.Given as goal
 
 abbrev pub invariant-loop-j : goal.invariant-loop-j

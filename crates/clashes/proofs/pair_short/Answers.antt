@@ -1,7 +1,6 @@
 use mathlib.Core.Path.{ap, ◌∙◌}
 use Prim.Native.Nat.{ℕ, ◌-◌}
 use Rattle.plan_laws.specs.Clash.{pair_free, pair_above, pair_below}
-use borrow.Author.Rules.{rules}
 use Rattle.clashes.proofs.pair_short.Goals as goal
 
 pub returns-then-g-ge-NO_CONFLICT : goal.returns-then-g-ge-NO_CONFLICT

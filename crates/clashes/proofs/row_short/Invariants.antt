@@ -1,12 +1,8 @@
 use Prim.Native.Nat.{ℕ, ◌≤◌, ◌<◌, ◌-◌}
 use mathlib.Core.Path.{◌≡◌}
 use mathlib.Core.Bool.{false}
-use native.Mathlib.Omega.{arith}
-use borrow.Author.Count.{below_more}
 use Rattle.rules.specs.Tables.{at, lend}
 use Rattle.rules.specs.Plan.{net_of, too_close}
-use Rattle.plan_laws.specs.Clash.{lack_none, close_before}
-use borrow.Author.Rules.{rules}
 use Rattle.clashes.proofs.row_short.Given as goal
 
 abbrev pub invariant-loop-j : goal.invariant-loop-j

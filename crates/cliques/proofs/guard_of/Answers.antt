@@ -1,6 +1,5 @@
 use native.Mathlib.Omega.{arith}
 use Prim.Native.Nat.{◌<◌}
-use borrow.Author.Rules.{rules}
 use Rattle.cliques.proofs.guard_of.Goals as goal
 
 pub overflow_mul-result : goal.overflow_mul-result

@@ -1,10 +1,7 @@
 use native.Mathlib.Omega.{arith}
-use Prim.Native.Nat.{ℕ, ◌≤◌, ◌<◌, ◌-◌}
 use mathlib.Core.Path.{◌≡◌, sym, ◌∙◌}
-use mathlib.Core.Bool.{false}
 use borrow.Author.Count.{below_none, below_more}
 use Rattle.table_laws.specs.Scans.{found_at, found_none}
-use Rattle.cliques.specs.Listed.{stranger}
 use Rattle.cliques.proofs.has_stranger.Goals as goal
 
 pub loop-i-init : goal.loop-i-init

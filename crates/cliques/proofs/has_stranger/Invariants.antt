@@ -1,9 +1,6 @@
-use native.Mathlib.Omega.{arith}
 use Prim.Native.Nat.{ℕ, ◌≤◌, ◌<◌, ◌-◌}
-use mathlib.Core.Path.{◌≡◌, sym, ◌∙◌}
+use mathlib.Core.Path.{◌≡◌}
 use mathlib.Core.Bool.{false}
-use borrow.Author.Count.{below_none, below_more}
-use Rattle.table_laws.specs.Scans.{found_at, found_none}
 use Rattle.cliques.specs.Listed.{stranger}
 use Rattle.cliques.proofs.has_stranger.Given as goal
 

@@ -3,7 +3,6 @@ use mathlib.Core.Path.{◌≡◌, refl, sym, ◌∙◌}
 use mathlib.Core.Bool.{Bool, true, false, not}
 use lib.Dec.{ltb, leb}
 use borrow.Author.Tests.{eq-eqb, ne_eqb, ltb-true, ltb-false, le-leb, lt-leb}
-use borrow.Author.Rules.{rules}
 use Rattle.cliques.proofs.is_stranger.Goals as goal
 
 no_conflict : (g : ℕ) → leb 255 g ≡ not (ltb g 255)

@@ -11,7 +11,6 @@ use Rattle.rules.specs.Plan.{Net, net_of}
 use Rattle.rules.specs.Numbers.{fault, outside, scan, bad_member, list_fault}
 use Rattle.table_laws.specs.Faults.{refuse_bad, refuse_not, or_stop, or_on}
 use Rattle.table_laws.specs.Limits.{outside_none}
-use borrow.Author.Rules.{rules}
 use Rattle.cliques.proofs.list_fault.Goals as goal
 
 list_long : (n : ℕ) (net : Net) (list : List ℕ) → outside 1 8 (length list) ≡ true → fault 15 0 ≡ list_fault n net list

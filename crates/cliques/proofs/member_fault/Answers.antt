@@ -1,16 +1,13 @@
 use native.Mathlib.Omega.{arith}
-use Prim.Native.Nat.{ℕ, ◌≤◌, ◌<◌, ◌-◌}
+use Prim.Native.Nat.{ℕ, ◌<◌}
 use mathlib.Core.Path.{◌≡◌, refl, sym, ◌∙◌}
 use mathlib.Core.Bool.{Bool, true, false, ◌||◌}
-use borrow.Author.Rules.{rules}
 use borrow.Author.Count.{below_none, below_more}
 use borrow.Author.Tests.{le-leb, lt-leb}
 use lib.Dec.{leb}
 use lib.ListN.{length}
 use Rattle.rules.specs.Tables.{at}
-use Rattle.rules.specs.Scan.{found}
 use Rattle.table_laws.specs.Faults.{scan_at, scan_none}
-use Rattle.cliques.specs.Listed.{stranger}
 use Rattle.cliques.proofs.member_fault.Goals as goal
 
 bad_entry_lem : (n x : ℕ) (b : Bool) → b ≡ true → (leb n x || b) ≡ true

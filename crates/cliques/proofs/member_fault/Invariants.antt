@@ -1,15 +1,10 @@
-use native.Mathlib.Omega.{arith}
 use Prim.Native.Nat.{ℕ, ◌≤◌, ◌<◌, ◌-◌}
-use mathlib.Core.Path.{◌≡◌, refl, sym, ◌∙◌}
-use mathlib.Core.Bool.{Bool, true, false, ◌||◌}
-use borrow.Author.Rules.{rules}
-use borrow.Author.Count.{below_none, below_more}
-use borrow.Author.Tests.{le-leb, lt-leb}
+use mathlib.Core.Path.{◌≡◌}
+use mathlib.Core.Bool.{false, ◌||◌}
 use lib.Dec.{leb}
 use lib.ListN.{length}
 use Rattle.rules.specs.Tables.{at}
 use Rattle.rules.specs.Scan.{found}
-use Rattle.table_laws.specs.Faults.{scan_at, scan_none}
 use Rattle.cliques.specs.Listed.{stranger}
 use Rattle.cliques.proofs.member_fault.Given as goal
 

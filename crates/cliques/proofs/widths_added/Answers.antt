@@ -1,5 +1,5 @@
 use native.Mathlib.Omega.{arith}
-use Prim.Native.Nat.{◌*◌, ◌≤◌, ◌<◌, ◌-◌}
+use Prim.Native.Nat.{◌≤◌, ◌<◌}
 use mathlib.Core.Path.{◌≡◌, refl}
 use native.Mathlib.Numerals.{add-one}
 use lib.ListN.{length}

@@ -1,11 +1,8 @@
-use native.Mathlib.Omega.{arith}
-use Prim.Native.Nat.{◌*◌, ◌≤◌, ◌<◌, ◌-◌}
-use mathlib.Core.Path.{◌≡◌, refl}
-use native.Mathlib.Numerals.{add-one}
+use Prim.Native.Nat.{◌*◌, ◌≤◌, ◌-◌}
+use mathlib.Core.Path.{◌≡◌}
 use lib.ListN.{length}
 use Rattle.rules.specs.Tables.{at}
 use Rattle.rules.specs.Scan.{sum}
-use Rattle.table_laws.specs.Scans.{sum_next}
 use Rattle.cliques.proofs.widths_added.Given as goal
 
 abbrev pub invariant-loop-i : goal.invariant-loop-i

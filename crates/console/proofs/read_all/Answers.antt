@@ -1,8 +1,5 @@
-use mathlib.Core.Path.{◌≡◌}
-use lib.ListN.{length}
 use borrow.Author.Rules.{rules}
 use native.Mathlib.Omega.{arith}
-use Rattle.console.specs.Kept.{Came}
 use Rattle.console.proofs.Keeping.{none_came, more_came}
 use Rattle.console.proofs.read_all.Goals as goal
 

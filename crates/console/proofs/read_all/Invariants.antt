@@ -1,9 +1,6 @@
 use mathlib.Core.Path.{◌≡◌}
 use lib.ListN.{length}
-use borrow.Author.Rules.{rules}
-use native.Mathlib.Omega.{arith}
 use Rattle.console.specs.Kept.{Came}
-use Rattle.console.proofs.Keeping.{none_came, more_came}
 use Rattle.console.proofs.read_all.Given as goal
 
 abbrev pub invariant-loop-turns : goal.invariant-loop-turns

@@ -1,6 +1,5 @@
 use Prim.Native.Nat.{◌≤◌}
 use lib.ListN.{length}
-use borrow.Author.Rules.{rules}
 use Rattle.console.proofs.write.Given as goal
 
 abbrev pub invariant-loop-turns : goal.invariant-loop-turns

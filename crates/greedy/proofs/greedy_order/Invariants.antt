@@ -1,12 +1,9 @@
-use native.Mathlib.Omega.{arith}
-use borrow.Author.Rules.{rules}
-use Prim.Native.Nat.{ℕ, ◌+◌, ◌*◌, ◌≤◌, ◌<◌, ◌-◌}
-use mathlib.Core.Path.{◌≡◌, refl, ◌∙◌}
+use Prim.Native.Nat.{ℕ, ◌-◌}
+use mathlib.Core.Path.{◌≡◌}
 use mathlib.Core.List.{List}
-use lib.ListN.{length, replicate}
-use Rattle.rules.specs.Tables.{at, lend}
-use Rattle.table_laws.specs.Updates.{update_set}
-use Rattle.plan_laws.specs.Growing.{Growing, growing_first, growing_below, growing_bound, growing_more, growing_last}
+use lib.ListN.{length}
+use Rattle.rules.specs.Tables.{lend}
+use Rattle.plan_laws.specs.Growing.{Growing}
 use Rattle.greedy.proofs.greedy_order.Given as goal
 
 abbrev pub invariant-loop-m : goal.invariant-loop-m

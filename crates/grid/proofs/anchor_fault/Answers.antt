@@ -6,7 +6,6 @@ use mir.Syntax.{w32}
 use mir.Val.{SFits, to_z, of_z}
 use mir.Facts.{to_z-of_z}
 use Rattle.grid.proofs.Tests.{anchor_low, anchor_high, anchor_fine}
-use borrow.Author.Rules.{rules}
 use Rattle.grid.proofs.anchor_fault.Goals as goal
 
 -- a test of what the machine reads of the anchor is one of the anchor

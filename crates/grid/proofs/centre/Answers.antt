@@ -8,7 +8,6 @@ use Rattle.rules.specs.Grid.{grid_number, quarters}
 use Rattle.rules.specs.Calls.{centre_number}
 use Rattle.grid.proofs.Tests.{centre_clear, block_clear}
 use Rattle.grid.proofs.Centres.{centre_refused, centre_done}
-use borrow.Author.Rules.{rules}
 use Rattle.grid.proofs.centre.Goals as goal
 
 pub returns-then-centre_number-ne0 : goal.returns-then-centre_number-ne0

@@ -2,7 +2,6 @@ use mathlib.Core.Path.{ap, ◌∙◌}
 use mir.Facts.{to_z-of_z}
 use Rattle.rules.specs.Numbers.{anchor_fault}
 use Rattle.grid.proofs.Tests.{centre_anchor, centre_block}
-use borrow.Author.Rules.{rules}
 use Rattle.grid.proofs.centre_number.Goals as goal
 
 pub returns-then-fault-ne0 : goal.returns-then-fault-ne0

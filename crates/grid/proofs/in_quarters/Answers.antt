@@ -1,6 +1,5 @@
 use native.Mathlib.Omega.{arith}
 use Rattle.sheet_laws.specs.Grid.{quarters_low}
-use borrow.Author.Rules.{rules}
 use Rattle.grid.proofs.in_quarters.Goals as goal
 
 pub returns : goal.returns

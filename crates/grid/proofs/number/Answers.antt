@@ -1,6 +1,5 @@
 use native.Mathlib.Omega.{arith}
 use Rattle.sheet_laws.specs.Grid.{number_low}
-use borrow.Author.Rules.{rules}
 use Rattle.grid.proofs.number.Goals as goal
 
 pub returns : goal.returns

@@ -3,7 +3,6 @@ use native.Mathlib.Omega.{arith}
 use Prim.Native.Nat.{◌+◌, ◌-◌}
 use Rattle.sheet_laws.specs.Grid.{start_under, start_over}
 use Rattle.grid.proofs.Starts.{above_odd, above_high, above_fine}
-use borrow.Author.Rules.{rules}
 use Rattle.grid.proofs.start_of.Goals as goal
 
 pub returns-then-n-first : goal.returns-then-n-first

@@ -1,5 +1,4 @@
 use Rattle.grid.proofs.Anchors.{lowered_fits, lowered_back}
-use borrow.Author.Rules.{rules}
 use Rattle.grid.proofs.uncounted.Goals as goal
 
 pub overflow_sub-result : goal.overflow_sub-result

@@ -4,7 +4,6 @@ use Rattle.rules.specs.Tables.{at, cell}
 use Rattle.rules.specs.Numbers.{bad_guard}
 use Rattle.table_laws.specs.Scans.{first_none}
 use Rattle.guard_rows.proofs.Tests.{guard_right}
-use borrow.Author.Rules.{rules}
 use Rattle.guard_rows.proofs.guard_row.Goals as goal
 
 pub returns-then-d : goal.returns-then-d

@@ -1,7 +1,6 @@
 use mathlib.Core.Path.{sym}
 use Rattle.rules.specs.Numbers.{bad_mirror}
 use Rattle.table_laws.specs.Scans.{first_none}
-use borrow.Author.Rules.{rules}
 use Rattle.guard_rows.proofs.mirror_row.Goals as goal
 
 pub returns-then-most-eq0 : goal.returns-then-most-eq0

@@ -1,10 +1,6 @@
-use Prim.Native.Nat.{ℕ, ◌≤◌, ◌<◌, ◌-◌}
-use mathlib.Core.Path.{◌≡◌}
-use mathlib.Core.Bool.{false}
 use native.Mathlib.Omega.{arith}
 use borrow.Author.Rules.{rules}
 use borrow.Author.Count.{below_more}
-use Rattle.rules.specs.Numbers.{bad_mirror}
 use Rattle.guard_rows.proofs.Tests.{mirror_before, mirror_same}
 use Rattle.guard_rows.proofs.row_apart.Goals as goal
 

@@ -1,11 +1,7 @@
 use Prim.Native.Nat.{ℕ, ◌≤◌, ◌<◌, ◌-◌}
 use mathlib.Core.Path.{◌≡◌}
 use mathlib.Core.Bool.{false}
-use native.Mathlib.Omega.{arith}
-use borrow.Author.Rules.{rules}
-use borrow.Author.Count.{below_more}
 use Rattle.rules.specs.Numbers.{bad_mirror}
-use Rattle.guard_rows.proofs.Tests.{mirror_before, mirror_same}
 use Rattle.guard_rows.proofs.row_apart.Given as goal
 
 abbrev pub invariant-loop-j : goal.invariant-loop-j

@@ -1,4 +1,3 @@
-use borrow.Author.Rules.{rules}
 use Rattle.guard_rows.proofs.row_fault.Goals as goal
 
 pub returns-then-mirror : goal.returns-then-mirror

@@ -1,9 +1,6 @@
-use Prim.Native.Nat.{ℕ, ◌≤◌, ◌<◌, ◌-◌}
-use mathlib.Core.Path.{◌≡◌}
 use native.Mathlib.Omega.{arith}
 use borrow.Author.Rules.{rules}
 use borrow.Author.Count.{below_none, below_more}
-use Rattle.rules.specs.Tables.{at, cell}
 use Rattle.guard_rows.proofs.row_top.Goals as goal
 
 pub loop-j-init : goal.loop-j-init

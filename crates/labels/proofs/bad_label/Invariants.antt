@@ -1,11 +1,8 @@
-use Prim.Native.Nat.{ℕ, ◌+◌, ◌-◌, ◌≤◌, ◌<◌}
-use mathlib.Core.Path.{◌≡◌, sym, ◌∙◌}
-use native.Mathlib.Omega.{arith}
+use Prim.Native.Nat.{ℕ, ◌-◌, ◌≤◌, ◌<◌}
+use mathlib.Core.Path.{◌≡◌}
 use lib.ListN.{length}
 use Rattle.rules.specs.Tables.{label_byte}
 use Rattle.rules.specs.Writing.{label_of}
-use Rattle.sheet_laws.specs.Writes.{label_short, bad_empty, bad_byte, bad_not}
-use native.Mathlib.Decide.{dec_lt}
 use Rattle.labels.proofs.bad_label.Given as goal
 
 abbrev pub invariant-loop-j : goal.invariant-loop-j

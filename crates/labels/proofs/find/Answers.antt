@@ -1,7 +1,6 @@
 use Prim.Native.Nat.{◌+◌, ◌*◌}
 use mathlib.Core.Path.{sym, ◌∙◌}
 use native.Mathlib.Omega.{arith}
-use borrow.Author.Rules.{rules}
 use Rattle.text.specs.Says.{part}
 use Rattle.labels.specs.Keys.{find_key}
 use Rattle.labels.proofs.Rows.{part_bytes}

@@ -1,11 +1,7 @@
 use Prim.Native.Nat.{ℕ, ◌+◌, ◌-◌, ◌≤◌, ◌<◌}
-use mathlib.Core.Path.{◌≡◌, sym, ◌∙◌}
+use mathlib.Core.Path.{◌≡◌}
 use mathlib.Core.Bool.{false}
-use native.Mathlib.Omega.{arith}
-use borrow.Author.Count.{below_none, below_more}
-use borrow.Author.Tests.{eq-eqb, ne_eqb}
 use lib.Dec.{eqb}
-use Rattle.table_laws.specs.Scans.{first_at, first_none}
 use Rattle.labels.specs.Keys.{row_key}
 use Rattle.labels.proofs.first_of_four.Given as goal
 

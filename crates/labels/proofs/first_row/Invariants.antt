@@ -1,11 +1,8 @@
 use Prim.Native.Nat.{ℕ, ◌-◌, ◌*◌, ◌≤◌, ◌<◌}
-use mathlib.Core.Path.{◌≡◌, ◌∙◌}
+use mathlib.Core.Path.{◌≡◌}
 use mathlib.Core.Bool.{false}
-use native.Mathlib.Omega.{arith}
-use borrow.Author.Count.{below_none}
 use lib.Dec.{eqb}
 use Rattle.labels.specs.Keys.{row_key}
-use Rattle.labels.proofs.Fours.{four_end, four_more, four_found}
 use Rattle.labels.proofs.first_row.Given as goal
 
 abbrev pub invariant-loop-b : goal.invariant-loop-b

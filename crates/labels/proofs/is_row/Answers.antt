@@ -1,7 +1,6 @@
 use mathlib.Core.Path.{sym}
 use Prim.Native.Nat.{◌+◌, ◌*◌}
 use native.Mathlib.Omega.{arith}
-use borrow.Author.Rules.{rules}
 use Rattle.labels.specs.Keys.{row_key_lem}
 use Rattle.text.specs.Says.{part}
 use Rattle.labels.proofs.Rows.{part_bytes}

@@ -1,5 +1,4 @@
 use native.Mathlib.Omega.{arith}
-use borrow.Author.Rules.{rules}
 use Rattle.labels.proofs.Rows.{part_in, part_out}
 use Rattle.labels.proofs.label_byte.Goals as goal
 

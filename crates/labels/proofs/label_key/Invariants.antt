@@ -1,10 +1,8 @@
-use Prim.Native.Nat.{◌-◌, ◌^◌, ◌≤◌, ◌<◌}
+use Prim.Native.Nat.{◌-◌, ◌≤◌}
 use mathlib.Core.Path.{◌≡◌}
-use native.Mathlib.Omega.{arith}
 use Rattle.rules.specs.Tables.{at}
-use Rattle.labels.specs.Keys.{pack, pack_none, pack_next, pack_room}
+use Rattle.labels.specs.Keys.{pack}
 use Rattle.text.specs.Says.{part}
-use Rattle.labels.proofs.Rows.{part_bytes}
 use Rattle.labels.proofs.label_key.Given as goal
 
 abbrev pub invariant-loop-j : goal.invariant-loop-j

@@ -1,12 +1,9 @@
 use Prim.Native.Nat.{◌+◌, ◌-◌, ◌≤◌}
-use mathlib.Core.Path.{◌≡◌, sym, ap, ◌∙◌}
-use native.Mathlib.Omega.{arith}
-use borrow.Author.Tests.{not-true, not-false}
+use mathlib.Core.Path.{◌≡◌}
 use lib.ListN.{length}
 use Rattle.rules.specs.Text.{run, is_label_byte}
 use Rattle.rules.specs.Writing.{label_of}
-use Rattle.sheet_laws.specs.Writes.{row_rest, rest_stop, rest_byte, rest_end, rest_start}
-use Rattle.text.specs.Says.{class_of}
+use Rattle.sheet_laws.specs.Writes.{row_rest}
 use Rattle.labels.proofs.label_length.Given as goal
 
 abbrev pub invariant-loop-j : goal.invariant-loop-j

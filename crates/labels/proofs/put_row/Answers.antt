@@ -1,10 +1,9 @@
 use native.Mathlib.Nat.{add-zero}
-use lib.ListN.{length-set, length}
-use Prim.Native.Nat.{◌+◌, ◌-◌, ◌*◌, ◌≤◌}
-use mathlib.Core.Path.{◌≡◌, refl, sym, ◌∙◌}
+use lib.ListN.{length-set}
+use Prim.Native.Nat.{◌*◌}
+use mathlib.Core.Path.{refl, sym, ◌∙◌}
 use native.Mathlib.Omega.{arith}
-use lib.Seq.{sets}
-use Rattle.rules.specs.Sheet.{bytes_from, put_row}
+use Rattle.rules.specs.Sheet.{put_row}
 use Rattle.text.specs.Says.{part}
 use Rattle.labels.proofs.Rows.{row_step, row_end}
 use Rattle.labels.proofs.put_row.Goals as goal

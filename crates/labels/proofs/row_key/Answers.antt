@@ -1,6 +1,5 @@
 use Prim.Native.Nat.{◌+◌, ◌*◌}
 use mathlib.Core.Path.{sym, ◌∙◌}
-use borrow.Author.Rules.{rules}
 use Rattle.rules.specs.Tables.{at, label_byte}
 use Rattle.text.specs.Says.{part}
 use Rattle.labels.specs.Keys.{pack_equal}

@@ -1,5 +1,4 @@
 use native.Mathlib.Omega.{arith}
-use borrow.Author.Rules.{rules}
 use lib.ListN.{drop, length-set}
 use Rattle.text.specs.Says.{part}
 use Rattle.lines.specs.Says.{GuardLineIs}

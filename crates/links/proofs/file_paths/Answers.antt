@@ -1,10 +1,9 @@
-use borrow.Author.Rules.{rules}
 use Rattle.links.specs.Files.{file_of, Filed, filed_none, filed_more}
 use Rattle.table_laws.specs.Tables.{cleared_length}
 use lib.ListN.{length, length-set}
 use native.Mathlib.Omega.{arith}
 use mathlib.Core.Path.{◌≡◌, ap, subst}
-use Prim.Native.Nat.{◌≤◌, ◌<◌, ◌-◌}
+use Prim.Native.Nat.{◌<◌, ◌-◌}
 use Rattle.links.proofs.file_paths.Goals as goal
 
 pub loop-j-init : goal.loop-j-init

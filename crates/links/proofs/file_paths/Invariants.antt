@@ -1,10 +1,5 @@
-use borrow.Author.Rules.{rules}
-use Rattle.links.specs.Files.{file_of, Filed, filed_none, filed_more}
-use Rattle.table_laws.specs.Tables.{cleared_length}
-use lib.ListN.{length, length-set}
-use native.Mathlib.Omega.{arith}
-use mathlib.Core.Path.{◌≡◌, ap, subst}
-use Prim.Native.Nat.{◌≤◌, ◌<◌, ◌-◌}
+use Rattle.links.specs.Files.{file_of, Filed}
+use Prim.Native.Nat.{◌≤◌}
 use Rattle.links.proofs.file_paths.Given as goal
 
 abbrev pub invariant-loop-j : goal.invariant-loop-j

@@ -3,7 +3,6 @@ use Rattle.rules.specs.Plan.{net_of}
 use Rattle.rules.specs.Tables.{at, lend}
 use native.Mathlib.Omega.{arith}
 use mathlib.Core.Path.{◌∙◌}
-use borrow.Author.Rules.{rules}
 use Rattle.links.proofs.holds_up.Goals as goal
 
 pub meets-requires : goal.meets-requires

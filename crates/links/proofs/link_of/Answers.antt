@@ -1,11 +1,10 @@
-use borrow.Author.Rules.{rules}
-use Rattle.links.specs.Files.{file_at, file_of, Searching, search_first, search_step, search_found, search_none, link_found}
+use Rattle.links.specs.Files.{file_at, file_of, search_first, search_step, search_found, search_none, link_found}
 use Rattle.rules.specs.Reason.{holds_up}
 use Rattle.rules.specs.Plan.{net_of}
 use Rattle.rules.specs.Tables.{at, lend}
 use native.Mathlib.Omega.{arith}
 use mathlib.Core.Path.{sym, ◌∙◌}
-use Prim.Native.Nat.{◌<◌, ◌-◌}
+use Prim.Native.Nat.{◌<◌}
 use Rattle.links.proofs.link_of.Goals as goal
 
 pub overflow_cast-b : goal.overflow_cast-b

@@ -1,6 +1,5 @@
 use Prim.Native.Nat.{◌+◌}
 use Rattle.links.specs.Files.{meets_free, meets_told}
-use borrow.Author.Rules.{rules}
 use Rattle.links.proofs.meets.Goals as goal
 
 pub returns-then-g-ge-NO_CONFLICT : goal.returns-then-g-ge-NO_CONFLICT

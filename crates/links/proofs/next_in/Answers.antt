@@ -1,6 +1,5 @@
 use Rattle.links.specs.Files.{file_of, own_told, up_told}
 use native.Mathlib.Omega.{arith}
-use borrow.Author.Rules.{rules}
 use Rattle.links.proofs.next_in.Goals as goal
 
 pub file_of-f-requires : goal.file_of-f-requires

@@ -2,7 +2,6 @@ use mathlib.Core.Path.{ap, ◌∙◌}
 use lib.IntN.{ℤ}
 use mir.Facts.{to_z-of_z}
 use Rattle.rules.specs.Calls.{centre_number}
-use borrow.Author.Rules.{rules}
 use Rattle.nesbrunka.proofs.nesbrunka_centre_number.Goals as goal
 
 pub returns : goal.returns

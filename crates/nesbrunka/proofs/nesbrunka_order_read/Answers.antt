@@ -3,7 +3,6 @@ use lib.IntN.{ℤ}
 use mir.Facts.{to_z-of_z}
 use Rattle.rules.specs.Tables.{lend}
 use Rattle.rules.specs.Calls.{order_reading}
-use borrow.Author.Rules.{rules}
 use Rattle.nesbrunka.proofs.nesbrunka_order_read.Goals as goal
 
 pub returns : goal.returns

@@ -1,7 +1,6 @@
 use Rattle.rules.specs.Tables.{lend}
 use Rattle.table_laws.specs.Tables.{blank}
 use Rattle.notes.proofs.Notes.{note_is}
-use borrow.Author.Rules.{rules}
 use Rattle.notes.proofs.note.Goals as goal
 
 pub returns : goal.returns

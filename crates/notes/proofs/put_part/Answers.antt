@@ -1,5 +1,4 @@
 use Rattle.notes.proofs.Notes.{part_wrote}
-use borrow.Author.Rules.{rules}
 use Rattle.notes.proofs.put_part.Goals as goal
 
 pub returns : goal.returns

@@ -1,9 +1,7 @@
-use Prim.Native.Nat.{◌-◌}
 use mathlib.Core.Path.{refl}
 use native.Mathlib.Omega.{arith}
-use lib.ListN.{length}
 use Rattle.rules.specs.Tables.{at}
-use Rattle.table_laws.specs.Updates.{Updated, update_none, update_more}
+use Rattle.table_laws.specs.Updates.{update_none, update_more}
 use Rattle.order.proofs.Copies.{copied}
 use Rattle.order.proofs.copy.Goals as goal
 

@@ -1,10 +1,7 @@
 use Prim.Native.Nat.{◌-◌}
-use mathlib.Core.Path.{refl}
-use native.Mathlib.Omega.{arith}
 use lib.ListN.{length}
 use Rattle.rules.specs.Tables.{at}
-use Rattle.table_laws.specs.Updates.{Updated, update_none, update_more}
-use Rattle.order.proofs.Copies.{copied}
+use Rattle.table_laws.specs.Updates.{Updated}
 use Rattle.order.proofs.copy.Given as goal
 
 abbrev pub invariant-loop-k : goal.invariant-loop-k

@@ -3,7 +3,6 @@ use mir.Facts.{to_z-of_z}
 use Rattle.rules.specs.Numbers.{anchor_fault}
 use Rattle.table_laws.specs.Faults.{or_stop, or_on}
 use Rattle.order.specs.Tests.{given_fault}
-use borrow.Author.Rules.{rules}
 use Rattle.order.proofs.given_fault.Goals as goal
 
 pub returns-then-sizes-ne0 : goal.returns-then-sizes-ne0

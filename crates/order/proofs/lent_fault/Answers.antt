@@ -4,7 +4,6 @@ use mir.Facts.{to_z-of_z}
 use Rattle.rules.specs.Tables.{lend}
 use Rattle.rules.specs.Numbers.{lent_fault, order_read_fault}
 use Rattle.order.specs.Tests.{given_fault}
-use borrow.Author.Rules.{rules}
 use Rattle.order.proofs.lent_fault.Goals as goal
 
 pub returns : goal.returns

@@ -13,7 +13,6 @@ use Rattle.sheet_laws.specs.Grid.{lowered}
 use Rattle.sections.specs.Says.{SectionIs}
 use Rattle.sections.specs.declared.Part.TheVariants.{Over, Halt}
 use Rattle.order.proofs.Outcomes.{Passed, lent_passed, read_refused, read_halt, read_done}
-use borrow.Author.Rules.{rules}
 use Rattle.order.proofs.order_read.Goals as goal
 
 pub returns-then-fault-ne0 : goal.returns-then-fault-ne0

@@ -14,7 +14,6 @@ use Rattle.sheet_laws.specs.Outcomes.{written_refused, written_short, written_do
 use Rattle.order_writer.specs.Ready.{Ready}
 use Rattle.order.specs.Tests.{table_fault}
 use Rattle.order.proofs.Outcomes.{table_passed, table_ready, writing_is}
-use borrow.Author.Rules.{rules}
 use Rattle.order.proofs.order_write.Goals as goal
 
 pub returns-then-fault-ne0 : goal.returns-then-fault-ne0

@@ -9,7 +9,6 @@ use Rattle.table_laws.specs.Faults.{scan_clear, or_stop, or_on}
 use Rattle.table_laws.specs.Chains.{number_of}
 use Rattle.order.specs.Tests.{table_fault}
 use Rattle.order.proofs.Outcomes.{Passed, lent_passed}
-use borrow.Author.Rules.{rules}
 use Rattle.order.proofs.table_fault.Goals as goal
 
 pub returns-then-lent-ne0 : goal.returns-then-lent-ne0

@@ -4,7 +4,6 @@ use Rattle.rules.specs.Grid.{order_line}
 use Rattle.text.specs.Says.{LabelIs, WordIs, SignedIs, LastIs}
 use Rattle.text.specs.declared.Next.TheVariants.{At, Missing}
 use Rattle.text.specs.declared.Amount.TheVariants.{Is, Unread}
-use borrow.Author.Rules.{rules}
 use Rattle.order_reader.proofs.order_line.Goals as goal
 
 pub returns-in_default : goal.returns-in_default

@@ -1,10 +1,7 @@
-use Prim.Native.Nat.{◌-◌, ◌≤◌}
-use mathlib.Core.Path.{◌≡◌, refl, sym, ◌∙◌}
+use mathlib.Core.Path.{refl, sym, ◌∙◌}
 use native.Mathlib.Omega.{arith}
 use native.Mathlib.Nat.{sub-zero}
-use borrow.Author.Rules.{rules}
-use lib.ListN.{length, drop}
-use Rattle.rules.specs.Sheet.{lines}
+use lib.ListN.{drop}
 use Rattle.rules.specs.Grid.{order_step}
 use Rattle.lines.specs.Says.{StepIs, StepWithin}
 use Rattle.lines.specs.declared.Step.TheVariants.{On, Refused}

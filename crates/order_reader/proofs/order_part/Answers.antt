@@ -9,7 +9,6 @@ use Rattle.sections.specs.Says.{SectionIs}
 use Rattle.sections.specs.declared.Part.TheVariants.{Over, Halt}
 use Rattle.sheet_laws.specs.Lines.{part_ill, part_count, part_halt, part_left, part_done}
 use Rattle.sheet_laws.specs.Grid.{lowered}
-use borrow.Author.Rules.{rules}
 use Rattle.order_reader.proofs.order_part.Goals as goal
 
 pub returns-in_default : goal.returns-in_default

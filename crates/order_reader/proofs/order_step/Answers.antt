@@ -1,13 +1,11 @@
 use mathlib.Core.Path.{sym, ◌∙◌}
 use native.Mathlib.Omega.{arith}
-use borrow.Author.Tests.{not-true, not-false}
 use lib.ListN.{drop}
 use Rattle.text.specs.Says.{part}
 use Rattle.sheet_laws.specs.Lines.{order_ill, order_other, order_width, order_none, order_fine}
 use Rattle.sheet_laws.specs.Grid.{lowered}
 use Rattle.order_reader.specs.Says.{OrderLineIs}
 use Rattle.order_reader.specs.declared.OrderLine.TheVariants.{Fields, Malformed}
-use borrow.Author.Rules.{rules}
 use Rattle.order_reader.proofs.order_step.Goals as goal
 
 pub returns-in_default : goal.returns-in_default

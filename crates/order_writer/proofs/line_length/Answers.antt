@@ -5,7 +5,6 @@ use lib.ListN.{length}
 use Rattle.rules.specs.Text.{signed_numeral}
 use Rattle.sheet_laws.specs.Writes.{label_short}
 use Rattle.sheet_laws.specs.Grid.{lowered, order_line_length}
-use borrow.Author.Rules.{rules}
 use Rattle.order_writer.proofs.line_length.Goals as goal
 
 pub overflow_add-result : goal.overflow_add-result

@@ -2,7 +2,6 @@ use native.Mathlib.Omega.{arith}
 use Rattle.rules.specs.Text.{order_word}
 use Rattle.sheet_laws.specs.Writes.{count_length, digits_few}
 use Rattle.sheet_laws.specs.Grid.{lowered, order_length}
-use borrow.Author.Rules.{rules}
 use Rattle.order_writer.proofs.order_length.Goals as goal
 
 pub overflow_add-result : goal.overflow_add-result

@@ -11,7 +11,6 @@ use Rattle.rules.specs.Grid.{grid_number, order_line_text}
 use Rattle.sheet_laws.specs.Writes.{both_pieces}
 use Rattle.sheet_laws.specs.Grid.{lowered, order_line_length}
 use Rattle.spelling.specs.Says.{Wrote}
-use borrow.Author.Rules.{rules}
 use Rattle.order_writer.proofs.put_line.Goals as goal
 
 pub put_label-p-requires : goal.put_label-p-requires

@@ -1,13 +1,9 @@
-use Prim.Native.Nat.{ℕ, ◌+◌, ◌-◌, ◌≤◌}
-use mathlib.Core.Path.{◌≡◌, refl, sym, ap, ◌∙◌}
-use mathlib.Core.List.{List}
-use native.Mathlib.Omega.{arith}
-use native.Mathlib.Nat.{sub-zero}
+use Prim.Native.Nat.{◌+◌, ◌-◌, ◌≤◌}
+use mathlib.Core.Path.{◌≡◌}
 use lib.ListN.{length}
 use lib.Seq.{sets}
 use Rattle.rules.specs.Writing.{join_from}
 use Rattle.rules.specs.Grid.{order_line_text}
-use Rattle.sheet_laws.specs.Writes.{join_step, join_end, join_length, piece}
 use Rattle.sheet_laws.specs.Grid.{lowered}
 use Rattle.order_writer.proofs.put_lines.Given as goal
 

@@ -4,7 +4,6 @@ use Rattle.rules.specs.Writing.{join_from, count_text}
 use Rattle.rules.specs.Grid.{order_line_text, order_text}
 use Rattle.sheet_laws.specs.Writes.{both_pieces}
 use Rattle.sheet_laws.specs.Grid.{lowered, order_length}
-use borrow.Author.Rules.{rules}
 use Rattle.order_writer.proofs.put_order.Goals as goal
 
 pub put_count_line-p-requires : goal.put_count_line-p-requires

@@ -1,5 +1,4 @@
 use Rattle.phrases.proofs.Phrases.{block_one, block_many}
-use borrow.Author.Rules.{rules}
 use native.Mathlib.Omega.{arith}
 use Rattle.phrases.proofs.put_block.Goals as goal
 

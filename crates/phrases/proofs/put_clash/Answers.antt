@@ -1,5 +1,4 @@
 use Rattle.phrases.proofs.Phrases.{clash_wrote}
-use borrow.Author.Rules.{rules}
 use native.Mathlib.Omega.{arith}
 use Rattle.phrases.proofs.put_clash.Goals as goal
 

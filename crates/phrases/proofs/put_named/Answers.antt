@@ -1,6 +1,5 @@
 use Rattle.rules.specs.Writing.{label_of}
 use Rattle.sheet_laws.specs.Writes.{both_pieces, label_short}
-use borrow.Author.Rules.{rules}
 use native.Mathlib.Omega.{arith}
 use Rattle.phrases.proofs.put_named.Goals as goal
 

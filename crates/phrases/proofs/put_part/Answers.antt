@@ -1,6 +1,5 @@
 use Rattle.rules.specs.Text.{numeral}
 use Rattle.sheet_laws.specs.Writes.{both_pieces, digits_few}
-use borrow.Author.Rules.{rules}
 use native.Mathlib.Omega.{arith}
 use Rattle.phrases.proofs.put_part.Goals as goal
 

@@ -1,5 +1,4 @@
 use Rattle.phrases.proofs.Phrases.{refused_unknown, refused_clash, refused_else}
-use borrow.Author.Rules.{rules}
 use native.Mathlib.Omega.{arith}
 use Rattle.phrases.proofs.put_refused.Goals as goal
 

@@ -1,6 +1,5 @@
 use Rattle.phrases.proofs.Phrases.{slots_one, slots_many}
 use Rattle.sheet_laws.specs.Writes.{digits_few}
-use borrow.Author.Rules.{rules}
 use native.Mathlib.Omega.{arith}
 use Rattle.phrases.proofs.put_slots.Goals as goal
 

@@ -1,5 +1,4 @@
 use Rattle.phrases.proofs.Phrases.{valid_wrote}
-use borrow.Author.Rules.{rules}
 use native.Mathlib.Omega.{arith}
 use Rattle.phrases.proofs.put_valid.Goals as goal
 

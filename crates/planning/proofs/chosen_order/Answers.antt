@@ -20,5 +20,8 @@ improve_order-run-requires c =
 
 pub returns : goal.returns
 returns c =
-    record { chosen = chosen_greedy c.args.n (lend c.args.widths.now c.args.guards.now) c.args.order.now c.args.starts.now c.args.seed c.args.rounds c.requires.network c.requires.order_size c.requires.starts_size _ _ (c.sided_order-split.ensures (lend c.args.widths.now c.args.guards.now) refl) c.if-split.false
-          _ _ c.improve_order-run.result (c.greedy_order.ensures c.args.starts.now c.requires.starts_size) (c.improve_order-run.ensures.by_index c.args.starts.now c.requires.starts_size); kept_from = c.improve_order-run.ensures.kept_from }
+    record {
+      chosen = chosen_greedy c.args.n (lend c.args.widths.now c.args.guards.now) c.args.order.now c.args.starts.now c.args.seed c.args.rounds c.requires.network c.requires.order_size c.requires.starts_size _ _ (c.sided_order-split.ensures (lend c.args.widths.now c.args.guards.now) refl) c.if-split.false
+          _ _ c.improve_order-run.result (c.greedy_order.ensures c.args.starts.now c.requires.starts_size) (c.improve_order-run.ensures.by_index c.args.starts.now c.requires.starts_size);
+      kept_from = c.improve_order-run.ensures.kept_from;
+    }

@@ -1,6 +1,5 @@
 use Rattle.rules.specs.Tables.{lend}
 use Rattle.planning.proofs.Outcomes.{floor_refused, floorable, floor_done}
-use borrow.Author.Rules.{rules}
 use Rattle.planning.proofs.floor.Goals as goal
 
 pub returns-then-f-ne0 : goal.returns-then-f-ne0

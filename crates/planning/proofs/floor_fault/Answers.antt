@@ -3,7 +3,6 @@ use Rattle.rules.specs.Tables.{lend}
 use Rattle.rules.specs.Numbers.{lent_fault, floor_fault}
 use Rattle.table_laws.specs.Faults.{or_stop, or_on}
 use Rattle.table_laws.specs.Chains.{number_of, lent_clear}
-use borrow.Author.Rules.{rules}
 use Rattle.planning.proofs.floor_fault.Goals as goal
 
 pub returns-then-f-ne0 : goal.returns-then-f-ne0

@@ -3,7 +3,6 @@ use Prim.Native.Nat.{◌≤◌}
 use Rattle.rules.specs.Tables.{lend}
 use Rattle.plan_laws.specs.Answers.{Packable}
 use Rattle.planning.proofs.Outcomes.{packed_over_used, packable_used, improved_packable, improved_done, improve_refused, improve_clear, improve_done}
-use borrow.Author.Rules.{rules}
 use Rattle.planning.proofs.improve.Goals as goal
 
 pub returns-then-f-ne0 : goal.returns-then-f-ne0

@@ -1,6 +1,5 @@
 use mathlib.Core.Path.{refl}
 use Rattle.rules.specs.Calls.{done_planned}
-use borrow.Author.Rules.{rules}
 use Rattle.planning.proofs.packed_plan.Goals as goal
 
 pub returns : goal.returns

@@ -1,7 +1,6 @@
 use mathlib.Core.Path.{refl, ◌∙◌}
 use Rattle.rules.specs.Tables.{lend}
 use Rattle.planning.proofs.Outcomes.{packed_over_used, packable_used, plan_refused, plannable, plan_done}
-use borrow.Author.Rules.{rules}
 use Rattle.planning.proofs.plan.Goals as goal
 
 pub returns-then-f-ne0 : goal.returns-then-f-ne0

@@ -2,7 +2,6 @@ use mathlib.Core.Path.{refl, sym, ◌∙◌}
 use borrow.Author.Tests.{lt-ltb, le-ltb}
 use Rattle.rules.specs.Numbers.{rounds_fault}
 use Rattle.table_laws.specs.Faults.{refuse_bad, refuse_not, or_stop, or_on}
-use borrow.Author.Rules.{rules}
 use Rattle.planning.proofs.then_rounds.Goals as goal
 
 pub returns-then-f-ne0 : goal.returns-then-f-ne0

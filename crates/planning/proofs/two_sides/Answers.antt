@@ -4,7 +4,6 @@ use Rattle.rules.specs.Tables.{lend}
 use Rattle.rules.specs.Numbers.{size_fault, lent_fault}
 use Rattle.table_laws.specs.Chains.{size_is}
 use Rattle.planning.proofs.Outcomes.{two_refused, two_clear, two_done, two_none}
-use borrow.Author.Rules.{rules}
 use Rattle.planning.proofs.two_sides.Goals as goal
 
 pub returns-then-f-ne0 : goal.returns-then-f-ne0

@@ -6,7 +6,6 @@ use Rattle.sheet_laws.specs.Grid.{lowered}
 use Rattle.text.specs.Says.{SignedIs}
 use Rattle.text.specs.declared.Amount.TheVariants.{Is, Unread}
 use Rattle.questions.proofs.Arguments.{anchor_none, anchor_short, anchor_out_lem, anchor_in}
-use borrow.Author.Rules.{rules}
 use Rattle.questions.proofs.anchor_asked.Goals as goal
 
 pub returns-in_default : goal.returns-in_default

@@ -1,6 +1,5 @@
 use mathlib.Core.Path.{sym, ◌∙◌}
 use Rattle.questions.proofs.Arguments.{other_count, asks_judge, no_word}
-use borrow.Author.Rules.{rules}
 use Rattle.questions.proofs.asked_for.Goals as goal
 
 pub returns-then-is_word : goal.returns-then-is_word

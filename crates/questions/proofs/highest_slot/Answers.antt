@@ -1,8 +1,4 @@
-use Prim.Native.Nat.{◌-◌, ◌≤◌}
 use mathlib.Core.Path.{◌≡◌, ◌∙◌}
-use mathlib.Core.List.{[]}
-use Rattle.rules.specs.Tables.{at, lend}
-use Rattle.rules.specs.Plan.{net_of, highest}
 use Rattle.questions.proofs.Tables.{highest_none, highest_next}
 use native.Mathlib.Omega.{arith}
 use Rattle.questions.proofs.highest_slot.Goals as goal

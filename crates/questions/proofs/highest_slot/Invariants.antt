@@ -1,10 +1,8 @@
 use Prim.Native.Nat.{◌-◌, ◌≤◌}
-use mathlib.Core.Path.{◌≡◌, ◌∙◌}
+use mathlib.Core.Path.{◌≡◌}
 use mathlib.Core.List.{[]}
 use Rattle.rules.specs.Tables.{at, lend}
 use Rattle.rules.specs.Plan.{net_of, highest}
-use Rattle.questions.proofs.Tables.{highest_none, highest_next}
-use native.Mathlib.Omega.{arith}
 use Rattle.questions.proofs.highest_slot.Given as goal
 
 abbrev pub invariant-loop-k : goal.invariant-loop-k

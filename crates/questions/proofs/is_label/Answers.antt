@@ -6,7 +6,6 @@ use Rattle.rules.specs.Asking.{is_whole}
 use Rattle.text.specs.Says.{part, LabelIs}
 use Rattle.text.specs.declared.Next.TheVariants.{At, Missing}
 use Rattle.questions.proofs.Arguments.{whole_end, none_whole}
-use borrow.Author.Rules.{rules}
 use native.Mathlib.Omega.{arith}
 use Rattle.questions.proofs.is_label.Goals as goal
 

@@ -3,7 +3,6 @@ use Rattle.rules.specs.Asking.{is_whole}
 use Rattle.text.specs.Says.{WordIs}
 use Rattle.text.specs.declared.Next.TheVariants.{At, Missing}
 use Rattle.questions.proofs.Arguments.{whole_end, none_whole}
-use borrow.Author.Rules.{rules}
 use Rattle.questions.proofs.is_word.Goals as goal
 
 pub returns-in_default : goal.returns-in_default

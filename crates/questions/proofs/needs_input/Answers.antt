@@ -2,7 +2,6 @@ use mathlib.Core.Path.{sym, ◌∙◌}
 use mathlib.Core.Bool.{true≢false}
 use Rattle.questions.specs.declared.Question.TheVariants.{NoLabel, BadLabel, NoAnchor, BadAnchor, NoWord}
 use Rattle.questions.specs.Asks.{Asks}
-use borrow.Author.Rules.{rules}
 use Rattle.questions.proofs.needs_input.Goals as goal
 
 pub returns-in-Sheet : goal.returns-in-Sheet

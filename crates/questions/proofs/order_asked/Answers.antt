@@ -1,5 +1,4 @@
 use Rattle.questions.proofs.Arguments.{no_anchor, many_anchors, order_asks}
-use borrow.Author.Rules.{rules}
 use Rattle.questions.proofs.order_asked.Goals as goal
 
 pub returns-then-count-eq1 : goal.returns-then-count-eq1

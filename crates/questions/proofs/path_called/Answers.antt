@@ -1,5 +1,4 @@
 use mathlib.Core.Path.{ap, ◌∙◌}
-use native.Mathlib.Omega.{arith}
 use Rattle.rules.specs.Sheet.{find}
 use Rattle.questions.proofs.Tables.{whole_part}
 use Rattle.questions.proofs.path_called.Goals as goal

@@ -1,6 +1,5 @@
 use mathlib.Core.Path.{sym, ◌∙◌}
 use Rattle.questions.proofs.Arguments.{no_label, many_words, asks_why, bad_label_lem}
-use borrow.Author.Rules.{rules}
 use Rattle.questions.proofs.why_asked.Goals as goal
 
 pub returns-then-count-eq1 : goal.returns-then-count-eq1

@@ -1,4 +1,3 @@
-use borrow.Author.Rules.{rules}
 use Rattle.reader.proofs.Fills.{fill_sized}
 use Rattle.reader.proofs.clear.Goals as goal
 

@@ -1,7 +1,6 @@
 use Prim.Native.Nat.{◌-◌}
-use native.Mathlib.Omega.{arith}
 use lib.ListN.{length}
-use Rattle.reader.proofs.Fills.{Filled, fill_none, fill_next, fill_all}
+use Rattle.reader.proofs.Fills.{Filled}
 use Rattle.reader.proofs.fill_bytes.Given as goal
 
 abbrev pub invariant-loop-i : goal.invariant-loop-i

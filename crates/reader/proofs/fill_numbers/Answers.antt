@@ -1,7 +1,4 @@
-use Prim.Native.Nat.{◌-◌}
-use native.Mathlib.Omega.{arith}
-use lib.ListN.{length}
-use Rattle.reader.proofs.Fills.{Filled, fill_none, fill_next, fill_all}
+use Rattle.reader.proofs.Fills.{fill_none, fill_next, fill_all}
 use Rattle.reader.proofs.fill_numbers.Goals as goal
 
 pub loop-i-init : goal.loop-i-init

@@ -1,4 +1,3 @@
-use borrow.Author.Rules.{rules}
 use Rattle.rules.specs.Tables.{lend}
 use Rattle.rules.specs.Sheet.{sheet_from}
 use Rattle.whole_sheet.specs.Says.{WholeIs}

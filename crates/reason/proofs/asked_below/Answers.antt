@@ -1,7 +1,6 @@
 use Rattle.plan_laws.specs.Reason.{asks_free, asks_above, asks_some}
 use Prim.Native.Nat.{◌+◌, ◌-◌}
 use mathlib.Core.Path.{◌∙◌}
-use borrow.Author.Rules.{rules}
 use Rattle.reason.proofs.asked_below.Goals as goal
 
 pub returns-then-g-ge-NO_CONFLICT : goal.returns-then-g-ge-NO_CONFLICT

@@ -1,12 +1,10 @@
-use borrow.Author.Rules.{rules}
 use mathlib.Core.Path.{refl}
-use Rattle.plan_laws.specs.Reason.{asks_of, asks_told, bottom_first, bottom_more, bottom_last}
-use Rattle.rules.specs.Scan.{largest}
+use Rattle.plan_laws.specs.Reason.{asks_told, bottom_first, bottom_more, bottom_last}
 use Rattle.rules.specs.Plan.{net_of}
 use Rattle.rules.specs.Tables.{at, lend}
 use native.Mathlib.Omega.{arith}
-use mathlib.Core.Path.{◌≡◌, ◌∙◌}
-use Prim.Native.Nat.{◌-◌, ◌≤◌, ◌<◌, max}
+use mathlib.Core.Path.{◌∙◌}
+use Prim.Native.Nat.{◌<◌}
 use Rattle.reason.proofs.bottom_of.Goals as goal
 
 pub loop-j-init : goal.loop-j-init

@@ -1,12 +1,9 @@
-use borrow.Author.Rules.{rules}
-use mathlib.Core.Path.{refl}
-use Rattle.plan_laws.specs.Reason.{asks_of, asks_told, bottom_first, bottom_more, bottom_last}
+use Rattle.plan_laws.specs.Reason.{asks_of}
 use Rattle.rules.specs.Scan.{largest}
 use Rattle.rules.specs.Plan.{net_of}
 use Rattle.rules.specs.Tables.{at, lend}
-use native.Mathlib.Omega.{arith}
-use mathlib.Core.Path.{◌≡◌, ◌∙◌}
-use Prim.Native.Nat.{◌-◌, ◌≤◌, ◌<◌, max}
+use mathlib.Core.Path.{◌≡◌}
+use Prim.Native.Nat.{◌-◌, ◌≤◌, max}
 use Rattle.reason.proofs.bottom_of.Given as goal
 
 abbrev pub invariant-loop-j : goal.invariant-loop-j

@@ -1,7 +1,6 @@
 use Rattle.reason.proofs.Told.{down_low, down_told}
 use Rattle.rules.specs.Plan.{net_of}
 use Rattle.rules.specs.Tables.{at, lend}
-use borrow.Author.Rules.{rules}
 use Rattle.reason.proofs.down_of.Goals as goal
 
 pub returns-then-s-eq1 : goal.returns-then-s-eq1

@@ -4,7 +4,6 @@ use Rattle.rules.specs.Tables.{lend}
 use lib.ListN.{length-replicate}
 use native.Mathlib.Omega.{arith}
 use Prim.Native.Nat.{ℕ, ◌-◌}
-use borrow.Author.Rules.{rules}
 use Rattle.reason.proofs.explain.Goals as goal
 
 pub file_paths-requires : goal.file_paths-requires

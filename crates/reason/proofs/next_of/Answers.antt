@@ -2,7 +2,6 @@ use Rattle.plan_laws.specs.Reason.{next_low, next_link}
 use Rattle.rules.specs.Plan.{net_of}
 use Rattle.rules.specs.Tables.{at, lend}
 use mathlib.Core.Path.{◌∙◌}
-use borrow.Author.Rules.{rules}
 use Rattle.reason.proofs.next_of.Goals as goal
 
 pub returns-then-starts-k-eq1 : goal.returns-then-starts-k-eq1

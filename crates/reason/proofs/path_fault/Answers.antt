@@ -3,7 +3,6 @@ use Rattle.rules.specs.Numbers.{path_fault}
 use borrow.Author.Tests.{lt-leb, le-leb}
 use lib.Dec.{leb}
 use mathlib.Core.Path.{sym, ◌∙◌}
-use borrow.Author.Rules.{rules}
 use Rattle.reason.proofs.path_fault.Goals as goal
 
 pub returns-then-n-path : goal.returns-then-n-path

@@ -3,7 +3,6 @@ use Rattle.plan_laws.specs.Answers.{why_clear}
 use Rattle.table_laws.specs.Chains.{number_of}
 use Rattle.rules.specs.Tables.{lend}
 use mathlib.Core.Path.{refl, ◌∙◌}
-use borrow.Author.Rules.{rules}
 use Rattle.reason.proofs.why.Goals as goal
 
 pub returns-then-f-ne0 : goal.returns-then-f-ne0

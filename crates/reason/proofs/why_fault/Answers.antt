@@ -5,7 +5,6 @@ use Rattle.table_laws.specs.Tables.{cleared_length}
 use Rattle.rules.specs.Numbers.{lent_fault, why_fault}
 use Rattle.rules.specs.Tables.{cleared}
 use mathlib.Core.Path.{refl, ap, ◌∙◌}
-use borrow.Author.Rules.{rules}
 use Rattle.reason.proofs.why_fault.Goals as goal
 
 pub returns-then-a-ne0 : goal.returns-then-a-ne0

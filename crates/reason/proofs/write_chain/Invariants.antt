@@ -1,11 +1,7 @@
-use borrow.Author.Rules.{rules}
-use Rattle.plan_laws.specs.Reason.{Writing, writing_first, writing_stop, writing_more, writing_full, next_ends, next_goes}
+use Rattle.plan_laws.specs.Reason.{Writing}
 use Rattle.rules.specs.Plan.{net_of}
 use Rattle.rules.specs.Tables.{at, lend}
-use lib.ListN.{set, length-set}
-use native.Mathlib.Omega.{arith}
-use mathlib.Core.Path.{sym, subst}
-use Prim.Native.Nat.{◌-◌, ◌+◌}
+use Prim.Native.Nat.{◌-◌}
 use Rattle.reason.proofs.write_chain.Given as goal
 
 abbrev pub invariant-loop-m : goal.invariant-loop-m

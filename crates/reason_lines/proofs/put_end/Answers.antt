@@ -3,7 +3,6 @@ use lib.ListN.{length}
 use Rattle.rules.specs.Tables.{at}
 use Rattle.reason_lines.proofs.Reasons.{end_free, end_alone, end_held}
 use Rattle.sheet_laws.specs.Writes.{label_short}
-use borrow.Author.Rules.{rules}
 use native.Mathlib.Omega.{arith}
 use Rattle.reason_lines.proofs.put_end.Goals as goal
 

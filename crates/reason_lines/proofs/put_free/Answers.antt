@@ -1,5 +1,4 @@
 use Rattle.reason_lines.proofs.Reasons.{free_wrote}
-use borrow.Author.Rules.{rules}
 use native.Mathlib.Omega.{arith}
 use Rattle.reason_lines.proofs.put_free.Goals as goal
 

@@ -1,5 +1,4 @@
 use Rattle.reason_lines.proofs.Reasons.{held_wrote}
-use borrow.Author.Rules.{rules}
 use native.Mathlib.Omega.{arith}
 use Rattle.reason_lines.proofs.put_held.Goals as goal
 

@@ -1,15 +1,11 @@
-use Prim.Native.Nat.{ℕ, ◌+◌, ◌-◌, ◌*◌, ◌≤◌}
-use mathlib.Core.Path.{◌≡◌, refl, sym, ap, ◌∙◌}
-use mathlib.Core.List.{List}
-use native.Mathlib.Nat.{sub-zero}
+use Prim.Native.Nat.{◌+◌, ◌-◌, ◌*◌, ◌≤◌}
+use mathlib.Core.Path.{◌≡◌}
 use lib.ListN.{length}
 use lib.Seq.{sets}
 use Rattle.rules.specs.Tables.{at, lend}
 use Rattle.rules.specs.Plan.{net_of}
 use Rattle.rules.specs.Writing.{join_from}
 use Rattle.rules.specs.Asking.{link_text}
-use Rattle.sheet_laws.specs.Writes.{join_step, join_end, piece}
-use native.Mathlib.Omega.{arith}
 use Rattle.reason_lines.proofs.put_links.Given as goal
 
 abbrev pub invariant-loop-i : goal.invariant-loop-i

@@ -1,6 +1,5 @@
 use Rattle.reason_lines.proofs.Reasons.{stands_wrote}
 use Rattle.sheet_laws.specs.Writes.{label_short}
-use borrow.Author.Rules.{rules}
 use native.Mathlib.Omega.{arith}
 use Rattle.reason_lines.proofs.put_stands.Goals as goal
 

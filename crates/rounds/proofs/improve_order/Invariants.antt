@@ -1,9 +1,7 @@
-use Rattle.rounds.proofs.Kept.{Improving, improving_first, improving_more, improving_packable}
-use Rattle.std.proofs.Common.{◌≡◌, ◌-◌, ◌≤◌, sym, ◌∙◌, arith}
+use Rattle.rounds.proofs.Kept.{Improving}
+use Rattle.std.proofs.Common.{◌-◌, ◌≤◌}
 use Rattle.rules.specs.Tables.{lend}
 use Rattle.rules.specs.Limits.{KeptFrom}
-use Rattle.table_laws.specs.Updates.{kept_none, kept_then}
-use Rattle.plan_laws.specs.Answers.{Packable}
 use Rattle.rounds.proofs.improve_order.Given as goal
 
 abbrev pub invariant-loop-k : goal.invariant-loop-k

@@ -1,5 +1,5 @@
 use Rattle.rounds.proofs.Kept.{swap_packable, round_kept, round_undone}
-use Rattle.std.proofs.Common.{arith, rules}
+use Rattle.std.proofs.Common.{arith}
 use Rattle.rules.specs.Tables.{lend}
 use Rattle.rounds.specs.Standing.{highest_of}
 use Rattle.rounds.proofs.one_round.Goals as goal

@@ -1,13 +1,7 @@
 use Prim.Native.Nat.{◌+◌, ◌-◌, ◌≤◌}
-use mathlib.Core.Path.{◌≡◌, refl, sym, ◌∙◌}
-use native.Mathlib.Omega.{arith}
-use native.Mathlib.Nat.{sub-zero}
-use borrow.Author.Rules.{rules}
+use mathlib.Core.Path.{◌≡◌}
 use lib.ListN.{length, drop}
 use Rattle.rules.specs.Sheet.{lines, guard_step}
-use Rattle.lines.specs.Says.{StepIs, StepWithin}
-use Rattle.lines.specs.declared.Step.TheVariants.{On, Refused}
-use Rattle.sheet_laws.specs.Lines.{lines_step, lines_halt, lines_end, guard_any}
 use Rattle.sections.proofs.guards.Given as goal
 
 abbrev pub invariant-loop-k : goal.invariant-loop-k

@@ -1,11 +1,10 @@
-use Prim.Native.Nat.{ℕ, ◌-◌, ◌≤◌}
-use mathlib.Core.Path.{◌≡◌, refl, sym, ◌∙◌}
+use Prim.Native.Nat.{ℕ}
+use mathlib.Core.Path.{refl, sym, ◌∙◌}
 use mathlib.Core.List.{List}
 use native.Mathlib.Omega.{arith}
 use native.Mathlib.Nat.{sub-zero}
-use borrow.Author.Rules.{rules}
-use lib.ListN.{length, drop}
-use Rattle.rules.specs.Sheet.{lines, path_step}
+use lib.ListN.{drop}
+use Rattle.rules.specs.Sheet.{path_step}
 use Rattle.lines.specs.Says.{StepIs, StepWithin}
 use Rattle.lines.specs.declared.Step.TheVariants.{On, Refused}
 use Rattle.sheet_laws.specs.Lines.{lines_step, lines_halt, lines_end}

@@ -1,5 +1,4 @@
 use mathlib.Core.Path.{◌∙◌}
-use borrow.Author.Rules.{rules}
 use Rattle.rules.specs.Tables.{lend}
 use Rattle.table_laws.specs.Chains.{number_of}
 use Rattle.sheet_laws.specs.Sizes.{all_clear}

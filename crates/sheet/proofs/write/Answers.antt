@@ -1,7 +1,6 @@
 use Prim.Native.Nat.{◌≤◌}
 use mathlib.Core.Path.{◌∙◌}
 use native.Mathlib.Omega.{arith}
-use borrow.Author.Rules.{rules}
 use Rattle.rules.specs.Tables.{lend}
 use Rattle.rules.specs.Writing.{sheet_text}
 use Rattle.sheet_laws.specs.Sizes.{Sized}

@@ -1,10 +1,7 @@
 use Prim.Native.Nat.{ℕ, ◌-◌, ◌≤◌, ◌<◌}
-use mathlib.Core.Path.{◌≡◌, sym, ◌∙◌}
+use mathlib.Core.Path.{◌≡◌}
 use mathlib.Core.Bool.{false}
-use native.Mathlib.Omega.{arith}
-use borrow.Author.Count.{below_none, below_more}
 use Rattle.rules.specs.Writing.{bad_label}
-use Rattle.table_laws.specs.Faults.{scan_at, scan_none}
 use Rattle.sheet_tables.proofs.label_fault.Given as goal
 
 abbrev pub invariant-loop-k : goal.invariant-loop-k

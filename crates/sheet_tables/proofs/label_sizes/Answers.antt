@@ -1,4 +1,3 @@
-use borrow.Author.Rules.{rules}
 use Rattle.rules.specs.Numbers.{size_fault, label_sizes}
 use Rattle.table_laws.specs.Faults.{or_stop, or_on}
 use Rattle.sheet_tables.proofs.label_sizes.Goals as goal

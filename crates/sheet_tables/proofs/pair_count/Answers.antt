@@ -1,8 +1,6 @@
-use Prim.Native.Nat.{◌-◌, ◌*◌, ◌≤◌}
 use mathlib.Core.Path.{◌≡◌, refl}
 use mathlib.Core.Bool.{cond}
 use native.Mathlib.Omega.{arith}
-use Rattle.rules.specs.Tables.{at}
 use Rattle.rules.specs.Scan.{sum}
 use Rattle.rules.specs.Writing.{is_pair, pairs}
 use Rattle.table_laws.specs.Scans.{sum_suc}

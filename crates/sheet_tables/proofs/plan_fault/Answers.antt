@@ -1,5 +1,4 @@
 use mathlib.Core.Path.{sym, ◌∙◌}
-use borrow.Author.Rules.{rules}
 use Rattle.sheet_tables.proofs.Plans.{plan_tested, plan_untested}
 use Rattle.sheet_tables.proofs.plan_fault.Goals as goal
 

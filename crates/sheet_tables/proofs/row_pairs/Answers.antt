@@ -1,10 +1,9 @@
-use Prim.Native.Nat.{ℕ, ◌+◌, ◌-◌, ◌≤◌, ◌<◌}
+use Prim.Native.Nat.{ℕ, ◌+◌, ◌≤◌}
 use mathlib.Core.Path.{◌≡◌, sym, ap}
 use mathlib.Core.Bool.{Bool, true, false, cond}
 use native.Mathlib.Omega.{arith}
 use lib.Dec.{ltb}
 use Rattle.rules.specs.Tables.{at, cell}
-use Rattle.rules.specs.Scan.{sum}
 use Rattle.rules.specs.Writing.{is_pair}
 use Rattle.sheet_laws.specs.Writes.{pair_test, pairs_before}
 use Rattle.table_laws.specs.Scans.{sum_suc}

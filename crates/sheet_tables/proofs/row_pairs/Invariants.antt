@@ -1,13 +1,8 @@
-use Prim.Native.Nat.{ℕ, ◌+◌, ◌-◌, ◌≤◌, ◌<◌}
-use mathlib.Core.Path.{◌≡◌, sym, ap}
-use mathlib.Core.Bool.{Bool, true, false, cond}
-use native.Mathlib.Omega.{arith}
-use lib.Dec.{ltb}
-use Rattle.rules.specs.Tables.{at, cell}
+use Prim.Native.Nat.{◌-◌, ◌≤◌, ◌<◌}
+use mathlib.Core.Path.{◌≡◌}
+use mathlib.Core.Bool.{cond}
 use Rattle.rules.specs.Scan.{sum}
 use Rattle.rules.specs.Writing.{is_pair}
-use Rattle.sheet_laws.specs.Writes.{pair_test, pairs_before}
-use Rattle.table_laws.specs.Scans.{sum_suc}
 use Rattle.sheet_tables.proofs.row_pairs.Given as goal
 
 abbrev pub invariant-loop-j : goal.invariant-loop-j

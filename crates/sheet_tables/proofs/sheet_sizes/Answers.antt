@@ -1,4 +1,3 @@
-use borrow.Author.Rules.{rules}
 use Rattle.rules.specs.Numbers.{sheet_sizes}
 use Rattle.table_laws.specs.Faults.{or_stop, or_on}
 use Rattle.sheet_tables.proofs.sheet_sizes.Goals as goal

@@ -1,6 +1,4 @@
-use Prim.Native.Nat.{◌≤◌, ◌<◌, ◌-◌}
 use native.Mathlib.Omega.{arith}
-use lib.ListN.{length}
 use Rattle.sheets.proofs.checksum_bytes.Goals as goal
 
 pub overflow_cast-total : goal.overflow_cast-total

@@ -1,6 +1,3 @@
-use Prim.Native.Nat.{◌≤◌, ◌+◌, ◌-◌}
-use native.Mathlib.Omega.{arith}
-use lib.ListN.{length}
 use Rattle.sheets.proofs.show_all.Goals as goal
 
 pub show-requires : goal.show-requires

@@ -1,12 +1,8 @@
 use native.Mathlib.Omega.{arith}
-use borrow.Author.Rules.{rules}
-use Prim.Native.Nat.{ℕ, ◌≤◌, ◌<◌, ◌-◌}
-use mathlib.Core.Path.{◌≡◌, sym, ap, ◌∙◌}
-use mathlib.Core.Bool.{false, not}
+use mathlib.Core.Path.{sym, ap, ◌∙◌}
+use mathlib.Core.Bool.{not}
 use borrow.Author.Count.{below_none, below_more}
-use Rattle.rules.specs.Scan.{found}
 use Rattle.table_laws.specs.Scans.{found_at, found_none}
-use Rattle.plan_laws.specs.Alike.{alike}
 use Rattle.sides.proofs.are_sides.Goals as goal
 
 pub loop-i-init : goal.loop-i-init

@@ -1,11 +1,7 @@
-use native.Mathlib.Omega.{arith}
-use borrow.Author.Rules.{rules}
 use Prim.Native.Nat.{ℕ, ◌≤◌, ◌<◌, ◌-◌}
-use mathlib.Core.Path.{◌≡◌, sym, ap, ◌∙◌}
-use mathlib.Core.Bool.{false, not}
-use borrow.Author.Count.{below_none, below_more}
+use mathlib.Core.Path.{◌≡◌}
+use mathlib.Core.Bool.{false}
 use Rattle.rules.specs.Scan.{found}
-use Rattle.table_laws.specs.Scans.{found_at, found_none}
 use Rattle.plan_laws.specs.Alike.{alike}
 use Rattle.sides.proofs.are_sides.Given as goal
 

@@ -1,4 +1,3 @@
-use borrow.Author.Rules.{rules}
 use borrow.Author.Tests.{lt-ltb, le-ltb}
 use Rattle.plan_laws.specs.Spreading.{asked_mark}
 use Rattle.sides.proofs.asked_mark.Goals as goal

@@ -10,7 +10,6 @@ use Rattle.rules.specs.Plan.{net_of}
 use Rattle.rules.specs.Sides.{marks, has_sides}
 use Rattle.table_laws.specs.Tables.{cleared_length}
 use Rattle.plan_laws.specs.Alike.{Mirrored, AllMarked, alike, rows_alike}
-use borrow.Author.Rules.{rules}
 use Rattle.sides.proofs.find_sides.Goals as goal
 
 -- no conflict joins two paths of one mark: the marks are those of the network, so it has sides

@@ -1,11 +1,7 @@
-use native.Mathlib.Omega.{arith}
-use borrow.Author.Rules.{rules}
 use Prim.Native.Nat.{ℕ, ◌≤◌, ◌<◌, ◌-◌}
-use mathlib.Core.Path.{◌≡◌, sym, ◌∙◌}
+use mathlib.Core.Path.{◌≡◌}
 use mathlib.Core.Bool.{false}
-use borrow.Author.Count.{below_none, below_more}
 use Rattle.rules.specs.Tables.{at}
-use Rattle.table_laws.specs.Scans.{first_at, first_none}
 use Rattle.plan_laws.specs.Spreading.{between}
 use Rattle.sides.proofs.first_between.Given as goal
 

@@ -1,8 +1,6 @@
-use native.Mathlib.Omega.{arith}
-use borrow.Author.Rules.{rules}
 use Prim.Native.Nat.{◌≤◌, ◌-◌}
 use Rattle.rules.specs.Tables.{at, cell}
-use Rattle.table_laws.specs.Updates.{Updated, update_none, update_more, update_all}
+use Rattle.table_laws.specs.Updates.{Updated}
 use Rattle.plan_laws.specs.Spreading.{meeting}
 use Rattle.sides.proofs.meet_row.Given as goal
 

@@ -1,4 +1,3 @@
-use borrow.Author.Rules.{rules}
 use borrow.Author.Tests.{lt-ltb, le-ltb}
 use Rattle.plan_laws.specs.Spreading.{next_path}
 use Rattle.sides.proofs.next_path.Goals as goal

@@ -1,4 +1,3 @@
-use borrow.Author.Rules.{rules}
 use mathlib.Core.Path.{refl}
 use Rattle.plan_laws.specs.Passes.{Passing, sides_of, passing_first, passing_next, passing_low, passing_last}
 use Rattle.sides.proofs.order_sides.Goals as goal

@@ -1,8 +1,6 @@
 use native.Mathlib.Omega.{arith}
 use borrow.Author.Rules.{rules}
-use Prim.Native.Nat.{ℕ, ◌≤◌, ◌-◌}
 use mathlib.Core.Path.{◌≡◌, sym, ◌∙◌}
-use mathlib.Core.List.{List}
 use Rattle.plan_laws.specs.Passes.{Passing, sides_of, passing_long, passing_room, passing_more}
 use Rattle.sides.proofs.put_side.Goals as goal
 

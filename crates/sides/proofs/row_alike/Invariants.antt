@@ -1,10 +1,6 @@
-use native.Mathlib.Omega.{arith}
-use borrow.Author.Rules.{rules}
 use Prim.Native.Nat.{◌≤◌, ◌-◌}
-use mathlib.Core.Path.{◌≡◌, sym, ◌∙◌}
-use native.Mathlib.Numerals.{add-one}
+use mathlib.Core.Path.{◌≡◌}
 use Rattle.rules.specs.Scan.{found}
-use Rattle.table_laws.specs.Scans.{found_none, found_suc}
 use Rattle.plan_laws.specs.Alike.{alike}
 use Rattle.sides.proofs.row_alike.Given as goal
 

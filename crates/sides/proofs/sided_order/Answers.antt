@@ -1,5 +1,4 @@
 use mathlib.Core.Path.{sym, ◌∙◌}
-use borrow.Author.Rules.{rules}
 use Rattle.table_laws.specs.Tables.{blank}
 use Rattle.sides.proofs.Splits.{split_two, split_none}
 use Rattle.sides.proofs.sided_order.Goals as goal

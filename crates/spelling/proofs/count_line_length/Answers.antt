@@ -1,5 +1,4 @@
 use native.Mathlib.Omega.{arith}
-use borrow.Author.Rules.{rules}
 use Rattle.sheet_laws.specs.Writes.{count_length}
 use Rattle.spelling.proofs.count_line_length.Goals as goal
 

@@ -1,7 +1,6 @@
 use Prim.Native.Nat.{◌+◌, ◌*◌}
 use mathlib.Core.Path.{sym, ap}
 use native.Mathlib.Omega.{arith}
-use borrow.Author.Rules.{rules}
 use lib.ListN.{length}
 use Rattle.sheet_laws.specs.Writes.{label_short, pair_length, guard_none, guard_some, pair_apart, pair_joined}
 use Rattle.spelling.proofs.guard_line_length.Goals as goal

@@ -1,5 +1,4 @@
 use native.Mathlib.Omega.{arith}
-use borrow.Author.Rules.{rules}
 use Rattle.sheet_laws.specs.Writes.{label_short, path_length}
 use Rattle.spelling.proofs.path_line_length.Goals as goal
 

@@ -1,6 +1,5 @@
 use mathlib.Core.List.{◌++◌}
 use native.Mathlib.Omega.{arith}
-use borrow.Author.Rules.{rules}
 use Rattle.rules.specs.Text.{numeral, space, line_feed}
 use Rattle.rules.specs.Writing.{count_text}
 use Rattle.sheet_laws.specs.Writes.{count_length, both_pieces}

@@ -1,13 +1,11 @@
-use Prim.Native.Nat.{ℕ, ◌+◌, ◌-◌, ◌≤◌}
-use mathlib.Core.Path.{◌≡◌, refl, sym, ap, ◌∙◌}
+use Prim.Native.Nat.{ℕ, ◌+◌}
+use mathlib.Core.Path.{refl, sym, ap, ◌∙◌}
 use mathlib.Core.List.{List}
 use native.Mathlib.Omega.{arith}
-use borrow.Author.Tests.{not-true, not-false}
 use lib.ListN.{length}
 use lib.Seq.{sets}
 use Rattle.rules.specs.Tables.{label_byte}
 use Rattle.rules.specs.Text.{run, is_label_byte}
-use Rattle.rules.specs.Writing.{label_of}
 use Rattle.sheet_laws.specs.Writes.{row_rest, rest_stop, rest_byte, rest_end, rest_start, byte}
 use Rattle.text.specs.Says.{class_of}
 use Rattle.spelling.proofs.put_label.Goals as goal

@@ -1,5 +1,4 @@
 use mathlib.Core.List.{◌++◌}
-use borrow.Author.Rules.{rules}
 use Rattle.rules.specs.Text.{numeral, space, line_feed}
 use Rattle.sheet_laws.specs.Writes.{both_pieces}
 use Rattle.spelling.proofs.put_last.Goals as goal

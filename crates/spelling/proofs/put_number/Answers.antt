@@ -1,4 +1,4 @@
-use Prim.Native.Nat.{ℕ, ◌+◌, ◌-◌, ◌/◌, ◌%◌, ◌≤◌, ◌<◌}
+use Prim.Native.Nat.{ℕ, ◌+◌, ◌-◌, ◌/◌, ◌%◌}
 use mathlib.Core.Path.{◌≡◌, refl, ap, ◌∙◌}
 use native.Mathlib.Omega.{arith}
 use lib.ListN.{length, set, length-set}
@@ -6,7 +6,6 @@ use lib.Seq.{sets}
 use Rattle.rules.specs.Text.{numeral}
 use Rattle.sheet_laws.specs.Writes.{digits_one, digits_more}
 use Rattle.spelling.proofs.Pieces.{last_digit, first_digit}
-use borrow.Author.Rules.{rules}
 use Rattle.spelling.proofs.put_number.Goals as goal
 
 pub loop-left-init : goal.loop-left-init

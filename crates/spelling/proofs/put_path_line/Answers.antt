@@ -1,6 +1,5 @@
 use mathlib.Core.List.{◌++◌}
 use native.Mathlib.Omega.{arith}
-use borrow.Author.Rules.{rules}
 use Rattle.rules.specs.Tables.{at}
 use Rattle.rules.specs.Text.{numeral, space, line_feed}
 use Rattle.rules.specs.Writing.{label_of, path_text}

@@ -7,7 +7,6 @@ use Rattle.rules.specs.Text.{hyphen, numeral}
 use Rattle.sheet_laws.specs.Writes.{both_pieces}
 use Rattle.sheet_laws.specs.Grid.{spelled_below, spelled_above}
 use Rattle.spelling.specs.Says.{Wrote}
-use borrow.Author.Rules.{rules}
 use Rattle.spelling.proofs.put_signed.Goals as goal
 
 pub put_word-p-requires : goal.put_word-p-requires

@@ -1,12 +1,7 @@
-use Prim.Native.Nat.{ℕ, ◌+◌, ◌-◌, ◌≤◌}
-use mathlib.Core.Path.{◌≡◌, refl, sym, ap, ◌∙◌}
-use mathlib.Core.List.{List}
-use native.Mathlib.Omega.{arith}
+use Prim.Native.Nat.{◌+◌, ◌-◌, ◌≤◌}
+use mathlib.Core.Path.{◌≡◌}
 use lib.ListN.{length, drop}
 use lib.Seq.{sets}
-use Rattle.rules.specs.Tables.{at}
-use Rattle.sheet_laws.specs.Texts.{here, past}
-use Rattle.sheet_laws.specs.Writes.{byte}
 use Rattle.spelling.proofs.put_word.Given as goal
 
 abbrev pub invariant-loop-j : goal.invariant-loop-j

@@ -4,7 +4,6 @@ use native.Mathlib.Omega.{arith}
 use lib.ListN.{length}
 use Rattle.sheet_laws.specs.Writes.{digits_few}
 use Rattle.sheet_laws.specs.Grid.{spelled_below, spelled_above}
-use borrow.Author.Rules.{rules}
 use Rattle.spelling.proofs.signed_length.Goals as goal
 
 pub overflow_add-result : goal.overflow_add-result

@@ -3,7 +3,6 @@ use mathlib.Core.Path.{sym, ◌∙◌}
 use Rattle.rules.specs.Numbers.{outside, count_fault}
 use Rattle.table_laws.specs.Faults.{refuse_bad, refuse_not}
 use Rattle.tables.proofs.Tests.{outside_low, outside_high}
-use borrow.Author.Rules.{rules}
 use Rattle.tables.proofs.count_fault.Goals as goal
 
 pub returns-then-n-lt1 : goal.returns-then-n-lt1

@@ -2,7 +2,6 @@ use mathlib.Core.Path.{refl}
 use Rattle.rules.specs.Numbers.{lent_fault}
 use Rattle.table_laws.specs.Faults.{or_stop, or_on}
 use Rattle.table_laws.specs.Chains.{number_of, sizes_clear}
-use borrow.Author.Rules.{rules}
 use Rattle.tables.proofs.lent_fault.Goals as goal
 
 pub returns-then-f-ne0 : goal.returns-then-f-ne0

@@ -1,6 +1,5 @@
 use Rattle.rules.specs.Numbers.{size_fault, network_sizes}
 use Rattle.table_laws.specs.Faults.{or_stop, or_on}
-use borrow.Author.Rules.{rules}
 use Rattle.tables.proofs.network_sizes.Goals as goal
 
 pub returns-then-f-ne0 : goal.returns-then-f-ne0

@@ -1,11 +1,9 @@
-use Prim.Native.Nat.{◌-◌}
 use mathlib.Core.Path.{refl, sym, ◌∙◌}
 use native.Mathlib.Omega.{arith}
 use lib.ListN.{replicate, get_or-replicate}
-use borrow.Author.Rules.{rules}
 use Rattle.rules.specs.Numbers.{bad_entry, order_fault}
 use Rattle.table_laws.specs.Faults.{scan_none, scan_at}
-use Rattle.tables.proofs.Tests.{Met, met_none, entry_over, entry_seen, met_more}
+use Rattle.tables.proofs.Tests.{met_none, entry_over, entry_seen, met_more}
 use Rattle.tables.proofs.order_fault.Goals as goal
 
 pub loop-p-init : goal.loop-p-init

@@ -4,7 +4,6 @@ use Rattle.rules.specs.Numbers.{lent_fault, pack_fault}
 use Rattle.table_laws.specs.Tables.{cleared_length}
 use Rattle.table_laws.specs.Faults.{or_stop, or_on}
 use Rattle.table_laws.specs.Chains.{number_of, lent_clear, plan_sizes_lem}
-use borrow.Author.Rules.{rules}
 use Rattle.tables.proofs.pack_fault.Goals as goal
 
 pub returns-then-f-ne0 : goal.returns-then-f-ne0

@@ -1,7 +1,6 @@
 use Rattle.rules.specs.Numbers.{plan_sizes}
 use Rattle.table_laws.specs.Faults.{or_stop, or_on}
 use Rattle.table_laws.specs.Chains.{size_is}
-use borrow.Author.Rules.{rules}
 use Rattle.tables.proofs.plan_sizes.Goals as goal
 
 pub returns-then-f-ne0 : goal.returns-then-f-ne0

@@ -1,12 +1,8 @@
 use Prim.Native.Nat.{ℕ, ◌≤◌, ◌<◌, ◌-◌}
-use mathlib.Core.Path.{◌≡◌, sym, ◌∙◌}
+use mathlib.Core.Path.{◌≡◌}
 use mathlib.Core.Bool.{false}
-use native.Mathlib.Omega.{arith}
-use borrow.Author.Rules.{rules}
-use borrow.Author.Count.{below_none, below_more}
 use Rattle.rules.specs.Tables.{at}
 use Rattle.rules.specs.Numbers.{outside}
-use Rattle.table_laws.specs.Faults.{scan_none, scan_at}
 use Rattle.tables.proofs.range_fault.Given as goal
 
 abbrev pub invariant-loop-k : goal.invariant-loop-k

@@ -1,7 +1,6 @@
 use mathlib.Core.Path.{refl, sym, ◌∙◌}
 use borrow.Author.Tests.{eq-eqb, ne_eqb}
 use Rattle.table_laws.specs.Faults.{refuse_bad, refuse_not}
-use borrow.Author.Rules.{rules}
 use Rattle.tables.proofs.size_fault.Goals as goal
 
 pub returns-then-cells-size : goal.returns-then-cells-size

@@ -1,10 +1,7 @@
-use Prim.Native.Nat.{ℕ, ◌≤◌, ◌<◌, ◌-◌}
-use mathlib.Core.Path.{◌≡◌, sym, ◌∙◌}
-use mathlib.Core.Bool.{false}
+use mathlib.Core.Path.{sym, ◌∙◌}
 use native.Mathlib.Omega.{arith}
 use borrow.Author.Rules.{rules}
 use borrow.Author.Count.{below_none, below_more}
-use Rattle.rules.specs.Scan.{found}
 use Rattle.guard_rows.specs.Cells.{bad_cell}
 use Rattle.rules.specs.Numbers.{nowhere_short}
 use Rattle.table_laws.specs.Faults.{square_rows, square_hit, row_miss}

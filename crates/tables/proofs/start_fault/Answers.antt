@@ -1,5 +1,4 @@
 use Rattle.rules.specs.Numbers.{start_fault}
-use borrow.Author.Rules.{rules}
 use Rattle.tables.proofs.start_fault.Goals as goal
 
 pub returns : goal.returns

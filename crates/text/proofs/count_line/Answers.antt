@@ -1,4 +1,3 @@
-use borrow.Author.Rules.{rules}
 use Rattle.rules.specs.Text.{then}
 use Rattle.rules.specs.Sheet.{count_line}
 use Rattle.text.specs.Says.{WordIs}

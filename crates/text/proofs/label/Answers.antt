@@ -1,7 +1,6 @@
 use Rattle.text.specs.Says.{class_of}
 use native.Mathlib.Omega.{arith}
 use Rattle.sheet_laws.specs.Texts.{label_none, label_long, label_some}
-use borrow.Author.Rules.{rules}
 use Rattle.text.proofs.label.Goals as goal
 
 pub returns-then-count-eq0 : goal.returns-then-count-eq0

@@ -1,5 +1,4 @@
 use mathlib.Core.List.{[], ◌∷◌}
-use borrow.Author.Rules.{rules}
 use Rattle.rules.specs.Text.{then}
 use Rattle.rules.specs.Sheet.{last_field}
 use Rattle.text.specs.Says.{WordIs, NumberIs}

@@ -5,7 +5,6 @@ use Rattle.text.specs.Says.{class_of}
 use lib.ListN.{drop}
 use Prim.Native.Nat.{ℕ}
 use Rattle.sheet_laws.specs.Texts.{number_none, number_long, number_led, number_zero, number_some}
-use borrow.Author.Rules.{rules}
 use Rattle.text.proofs.number.Goals as goal
 
 pub returns-then-count-eq0 : goal.returns-then-count-eq0

@@ -1,9 +1,6 @@
-use borrow.Author.Tests.{not-true, not-false}
-use Prim.Native.Nat.{◌+◌, ◌-◌, ◌≤◌}
-use mathlib.Core.Path.{◌≡◌, refl, sym, ap, ◌∙◌}
+use mathlib.Core.Path.{refl, sym, ap, ◌∙◌}
 use native.Mathlib.Omega.{arith}
-use lib.ListN.{length, drop}
-use Rattle.rules.specs.Text.{run}
+use lib.ListN.{length}
 use Rattle.text.specs.Says.{class_of}
 use Rattle.sheet_laws.specs.Texts.{run_end, run_stop, run_step}
 use Rattle.text.proofs.run_end.Goals as goal

@@ -5,7 +5,6 @@ use Rattle.text.specs.Says.{WordIs, NumberIs}
 use Rattle.text.specs.declared.Next.TheVariants.{At, Missing}
 use Rattle.text.specs.declared.Amount.TheVariants.{Is, Unread}
 use Rattle.sheet_laws.specs.Grid.{hyphen_none, hyphen_zero, hyphen_some}
-use borrow.Author.Rules.{rules}
 use Rattle.text.proofs.signed.Goals as goal
 
 pub unsigned-requires : goal.unsigned-requires

@@ -3,7 +3,6 @@ use lib.ListN.{drop}
 use Rattle.text.specs.Says.{NumberIs}
 use Rattle.text.specs.declared.Amount.TheVariants.{Is, Unread}
 use Rattle.sheet_laws.specs.Grid.{plain_none, plain_some}
-use borrow.Author.Rules.{rules}
 use Rattle.text.proofs.unsigned.Goals as goal
 
 pub returns-in_default : goal.returns-in_default

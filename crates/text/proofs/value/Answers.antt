@@ -1,11 +1,11 @@
 use lib.Dec.{lit<}
 use Rattle.sheet_laws.specs.Texts.{digit_bounds, run_more, value_step, value_end, digits_more, digits_few, run_step}
-use Prim.Native.Nat.{ℕ, ◌+◌, ◌-◌, ◌^◌, ◌≤◌, ◌<◌}
+use Prim.Native.Nat.{ℕ, ◌-◌, ◌^◌, ◌<◌}
 use mathlib.Core.Path.{◌≡◌, refl, sym, ap, ◌∙◌}
 use mathlib.Core.Bool.{true}
 use native.Mathlib.Omega.{arith}
-use lib.ListN.{length, get_or, drop}
-use Rattle.rules.specs.Text.{run, is_digit, value_from}
+use lib.ListN.{length, get_or}
+use Rattle.rules.specs.Text.{is_digit}
 use Rattle.text.proofs.value.Goals as goal
 
 digits_none : (a : ℕ) → 0 < 10 ^ (a - a)

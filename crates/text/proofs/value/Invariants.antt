@@ -1,10 +1,6 @@
-use lib.Dec.{lit<}
-use Rattle.sheet_laws.specs.Texts.{digit_bounds, run_more, value_step, value_end, digits_more, digits_few, run_step}
-use Prim.Native.Nat.{ℕ, ◌+◌, ◌-◌, ◌^◌, ◌≤◌, ◌<◌}
-use mathlib.Core.Path.{◌≡◌, refl, sym, ap, ◌∙◌}
-use mathlib.Core.Bool.{true}
-use native.Mathlib.Omega.{arith}
-use lib.ListN.{length, get_or, drop}
+use Prim.Native.Nat.{◌+◌, ◌-◌, ◌^◌, ◌≤◌, ◌<◌}
+use mathlib.Core.Path.{◌≡◌}
+use lib.ListN.{length, drop}
 use Rattle.rules.specs.Text.{run, is_digit, value_from}
 use Rattle.text.proofs.value.Given as goal
 

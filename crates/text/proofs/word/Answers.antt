@@ -1,9 +1,6 @@
 use Rattle.sheet_laws.specs.Texts.{word_step, word_differs, word_short, word_done}
-use Prim.Native.Nat.{◌-◌, ◌≤◌}
-use mathlib.Core.Path.{◌≡◌, refl, sym, ◌∙◌}
+use mathlib.Core.Path.{refl, sym, ◌∙◌}
 use native.Mathlib.Omega.{arith}
-use lib.ListN.{length, drop}
-use Rattle.rules.specs.Text.{word}
 use Rattle.text.proofs.word.Goals as goal
 
 pub loop-j-init : goal.loop-j-init

@@ -1,7 +1,5 @@
-use Rattle.sheet_laws.specs.Texts.{word_step, word_differs, word_short, word_done}
 use Prim.Native.Nat.{◌-◌, ◌≤◌}
-use mathlib.Core.Path.{◌≡◌, refl, sym, ◌∙◌}
-use native.Mathlib.Omega.{arith}
+use mathlib.Core.Path.{◌≡◌}
 use lib.ListN.{length, drop}
 use Rattle.rules.specs.Text.{word}
 use Rattle.text.proofs.word.Given as goal

@@ -1,10 +1,10 @@
 use native.Mathlib.Omega.{arith}
-use Prim.Native.Nat.{◌+◌, ◌-◌, ◌*◌, ◌≤◌, ◌<◌}
+use Prim.Native.Nat.{◌+◌, ◌*◌, ◌≤◌, ◌<◌}
 use mathlib.Core.Path.{◌≡◌, refl, ◌∙◌}
 use lib.ListN.{length, length-set}
 use Rattle.walks.specs.Sets.{power, shifted, power_most, power_next, shifted_next, own_le}
 use Rattle.walks.specs.Square.{guard_in}
-use Rattle.walks.specs.Filled.{Filled, filled_more, filled_set}
+use Rattle.walks.specs.Filled.{filled_more, filled_set}
 use Rattle.walks.proofs.fill_set.Goals as goal
 
 pub loop-j-init : goal.loop-j-init

@@ -1,10 +1,9 @@
-use native.Mathlib.Omega.{arith}
-use Prim.Native.Nat.{◌+◌, ◌-◌, ◌*◌, ◌≤◌, ◌<◌}
-use mathlib.Core.Path.{◌≡◌, refl, ◌∙◌}
-use lib.ListN.{length, length-set}
-use Rattle.walks.specs.Sets.{power, shifted, power_most, power_next, shifted_next, own_le}
+use Prim.Native.Nat.{◌-◌, ◌≤◌}
+use mathlib.Core.Path.{◌≡◌}
+use lib.ListN.{length}
+use Rattle.walks.specs.Sets.{power, shifted}
 use Rattle.walks.specs.Square.{guard_in}
-use Rattle.walks.specs.Filled.{Filled, filled_more, filled_set}
+use Rattle.walks.specs.Filled.{Filled}
 use Rattle.walks.proofs.fill_set.Given as goal
 
 abbrev pub invariant-loop-j : goal.invariant-loop-j

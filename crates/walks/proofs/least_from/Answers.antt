@@ -1,4 +1,3 @@
-use native.Mathlib.Omega.{arith}
 use borrow.Author.Tests.{eq-eqb, ne_eqb}
 use Rattle.walks.specs.Filled.{least_from}
 use Rattle.walks.proofs.least_from.Goals as goal

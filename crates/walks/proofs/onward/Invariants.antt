@@ -1,11 +1,7 @@
-use native.Mathlib.Omega.{arith}
-use native.Mathlib.Numerals.{add-one}
-use borrow.Author.Rules.{rules}
 use Prim.Native.Nat.{◌+◌, ◌-◌, ◌*◌, ◌≤◌}
-use mathlib.Core.Path.{◌≡◌, refl, ◌∙◌}
+use mathlib.Core.Path.{◌≡◌}
 use Rattle.rules.specs.Tables.{at}
 use Rattle.rules.specs.Scan.{least}
-use Rattle.walks.specs.Filled.{capped_next}
 use Rattle.walks.proofs.onward.Given as goal
 
 abbrev pub invariant-loop-i : goal.invariant-loop-i

@@ -1,10 +1,8 @@
 use native.Mathlib.Omega.{arith}
-use borrow.Author.Rules.{rules}
-use Prim.Native.Nat.{◌+◌, ◌-◌, ◌*◌, ◌≤◌, ◌<◌}
+use Prim.Native.Nat.{◌<◌}
 use mathlib.Core.Path.{refl}
-use lib.ListN.{length, replicate}
 use Rattle.rules.specs.Tables.{at}
-use Rattle.table_laws.specs.Updates.{Updated, update_none, update_more}
+use Rattle.table_laws.specs.Updates.{update_none, update_more}
 use Rattle.walks.proofs.row_of.Goals as goal
 
 pub overflow_cast-from : goal.overflow_cast-from

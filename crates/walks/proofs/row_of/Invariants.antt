@@ -1,10 +1,7 @@
-use native.Mathlib.Omega.{arith}
-use borrow.Author.Rules.{rules}
-use Prim.Native.Nat.{◌+◌, ◌-◌, ◌*◌, ◌≤◌, ◌<◌}
-use mathlib.Core.Path.{refl}
+use Prim.Native.Nat.{◌+◌, ◌-◌, ◌*◌, ◌≤◌}
 use lib.ListN.{length, replicate}
 use Rattle.rules.specs.Tables.{at}
-use Rattle.table_laws.specs.Updates.{Updated, update_none, update_more}
+use Rattle.table_laws.specs.Updates.{Updated}
 use Rattle.walks.proofs.row_of.Given as goal
 
 abbrev pub invariant-loop-q : goal.invariant-loop-q

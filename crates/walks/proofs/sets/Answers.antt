@@ -1,5 +1,4 @@
 use native.Mathlib.Omega.{arith}
-use Prim.Native.Nat.{◌-◌, ◌≤◌}
 use mathlib.Core.Path.{◌≡◌, refl}
 use Rattle.walks.specs.Sets.{power, power_most, power_next}
 use Rattle.walks.proofs.sets.Goals as goal

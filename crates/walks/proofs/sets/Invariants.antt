@@ -1,7 +1,6 @@
-use native.Mathlib.Omega.{arith}
 use Prim.Native.Nat.{◌-◌, ◌≤◌}
-use mathlib.Core.Path.{◌≡◌, refl}
-use Rattle.walks.specs.Sets.{power, power_most, power_next}
+use mathlib.Core.Path.{◌≡◌}
+use Rattle.walks.specs.Sets.{power}
 use Rattle.walks.proofs.sets.Given as goal
 
 abbrev pub invariant-loop-j : goal.invariant-loop-j

@@ -1,13 +1,8 @@
-use native.Mathlib.Omega.{arith}
-use native.Mathlib.Numerals.{add-one}
-use Prim.Native.Nat.{◌-◌, ◌*◌, ◌≤◌}
-use mathlib.Core.Path.{◌≡◌, refl, ◌∙◌}
+use Prim.Native.Nat.{◌-◌, ◌≤◌}
+use mathlib.Core.Path.{◌≡◌}
 use lib.ListN.{length}
-use Rattle.table_laws.specs.Tables.{cleared_length}
-use Rattle.walks.specs.Sets.{power, power_pos, power_most}
 use Rattle.walks.specs.Square.{guard_in}
-use Rattle.walks.specs.Filled.{Filled, filled_none}
-use Rattle.walks.specs.Joined.{joined_shortest}
+use Rattle.walks.specs.Filled.{Filled}
 use Rattle.walks.proofs.shortest_in.Given as goal
 
 abbrev pub invariant-loop-s : goal.invariant-loop-s

@@ -1,7 +1,6 @@
 use mathlib.Core.Path.{◌∙◌}
 use Prim.Native.Nat.{◌+◌}
 use native.Mathlib.Omega.{arith}
-use borrow.Author.Rules.{rules}
 use lib.ListN.{drop}
 use Rattle.rules.specs.Text.{starts_word}
 use Rattle.rules.specs.Sheet.{lines, start_step}

@@ -1,8 +1,5 @@
-use Prim.Native.Nat.{◌+◌, ◌-◌, ◌*◌, ◌≤◌}
-use mathlib.Core.Path.{◌≡◌}
 use native.Mathlib.Omega.{arith}
 use native.Mathlib.Nat.{sub-zero}
-use lib.ListN.{length}
 use Rattle.rules.specs.Writing.{join_from, guard_text}
 use Rattle.sheet_laws.specs.Writes.{join_length, join_none}
 use Rattle.writer.specs.Written.{guard_lines}

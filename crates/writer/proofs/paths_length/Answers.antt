@@ -1,9 +1,6 @@
-use Prim.Native.Nat.{◌+◌, ◌-◌, ◌*◌, ◌≤◌}
-use mathlib.Core.Path.{◌≡◌}
 use native.Mathlib.Omega.{arith}
 use native.Mathlib.Nat.{sub-zero}
-use lib.ListN.{length}
-use Rattle.rules.specs.Writing.{join_from, path_text}
+use Rattle.rules.specs.Writing.{path_text}
 use Rattle.sheet_laws.specs.Writes.{join_length, join_none}
 use Rattle.writer.proofs.paths_length.Goals as goal
 

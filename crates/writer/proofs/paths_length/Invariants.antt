@@ -1,10 +1,7 @@
 use Prim.Native.Nat.{◌+◌, ◌-◌, ◌*◌, ◌≤◌}
 use mathlib.Core.Path.{◌≡◌}
-use native.Mathlib.Omega.{arith}
-use native.Mathlib.Nat.{sub-zero}
 use lib.ListN.{length}
 use Rattle.rules.specs.Writing.{join_from, path_text}
-use Rattle.sheet_laws.specs.Writes.{join_length, join_none}
 use Rattle.writer.proofs.paths_length.Given as goal
 
 abbrev pub invariant-loop-k : goal.invariant-loop-k

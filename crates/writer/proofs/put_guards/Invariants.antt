@@ -1,12 +1,8 @@
-use Prim.Native.Nat.{ℕ, ◌+◌, ◌-◌, ◌≤◌}
-use mathlib.Core.Path.{◌≡◌, refl, sym, ap, ◌∙◌}
-use mathlib.Core.List.{List}
-use native.Mathlib.Omega.{arith}
-use native.Mathlib.Nat.{sub-zero}
+use Prim.Native.Nat.{◌+◌, ◌-◌, ◌≤◌}
+use mathlib.Core.Path.{◌≡◌}
 use lib.ListN.{length}
 use lib.Seq.{sets}
 use Rattle.rules.specs.Writing.{join_from, guard_text}
-use Rattle.sheet_laws.specs.Writes.{join_step, join_end, join_length, piece}
 use Rattle.writer.specs.Written.{guard_lines}
 use Rattle.writer.proofs.put_guards.Given as goal
 

@@ -1,11 +1,8 @@
-use Prim.Native.Nat.{ℕ, ◌+◌, ◌-◌, ◌≤◌, ◌<◌}
-use mathlib.Core.Path.{◌≡◌, refl, sym, ap, ◌∙◌}
-use mathlib.Core.List.{List}
-use native.Mathlib.Omega.{arith}
+use Prim.Native.Nat.{◌+◌, ◌-◌, ◌≤◌, ◌<◌}
+use mathlib.Core.Path.{◌≡◌}
 use lib.ListN.{length}
 use lib.Seq.{sets}
 use Rattle.rules.specs.Writing.{join_from, guard_text}
-use Rattle.sheet_laws.specs.Writes.{row_skip, join_step, join_end, join_length, piece}
 use Rattle.writer.proofs.put_row_lines.Given as goal
 
 abbrev pub invariant-loop-j : goal.invariant-loop-j

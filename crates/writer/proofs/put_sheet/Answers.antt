@@ -2,9 +2,7 @@ use Prim.Native.Nat.{ℕ}
 use mathlib.Core.Path.{ap}
 use mathlib.Core.List.{◌++◌}
 use native.Mathlib.Omega.{arith}
-use borrow.Author.Rules.{rules}
 use lib.ListN.{length}
-use Rattle.rules.specs.Tables.{at}
 use Rattle.rules.specs.Text.{paths_word, guards_word}
 use Rattle.rules.specs.Writing.{pairs, join_from, count_text, path_text, starts_text}
 use Rattle.sheet_laws.specs.Writes.{both_pieces}

@@ -1,6 +1,5 @@
 use mathlib.Core.Path.{refl, sym, ◌∙◌}
 use native.Mathlib.Omega.{arith}
-use borrow.Author.Rules.{rules}
 use Rattle.rules.specs.Text.{starts_word}
 use Rattle.rules.specs.Writing.{join_from, count_text, path_text}
 use Rattle.sheet_laws.specs.Writes.{both_pieces}

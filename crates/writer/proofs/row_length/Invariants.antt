@@ -1,9 +1,7 @@
 use Prim.Native.Nat.{◌+◌, ◌-◌, ◌*◌, ◌≤◌, ◌<◌}
-use mathlib.Core.Path.{◌≡◌, ap}
-use native.Mathlib.Omega.{arith}
+use mathlib.Core.Path.{◌≡◌}
 use lib.ListN.{length}
 use Rattle.rules.specs.Writing.{join_from, guard_text}
-use Rattle.sheet_laws.specs.Writes.{row_skip, join_length, join_none}
 use Rattle.writer.proofs.row_length.Given as goal
 
 abbrev pub invariant-loop-j : goal.invariant-loop-j

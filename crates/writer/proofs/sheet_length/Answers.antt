@@ -1,12 +1,11 @@
 use Prim.Native.Nat.{ℕ}
 use mathlib.Core.Path.{ap}
 use native.Mathlib.Omega.{arith}
-use borrow.Author.Rules.{rules}
 use lib.ListN.{length}
 use Rattle.rules.specs.Text.{paths_word, guards_word}
 use Rattle.rules.specs.Writing.{count_text}
 use Rattle.sheet_laws.specs.Writes.{digits_few, count_length}
-use Rattle.writer.proofs.Sheets.{starts_length, sheet_length}
+use Rattle.writer.proofs.Sheets.{sheet_length}
 use Rattle.writer.proofs.sheet_length.Goals as goal
 
 pub overflow_add-paths : goal.overflow_add-paths

@@ -1,7 +1,6 @@
 use lib.ListN.{length}
 use native.Mathlib.Omega.{arith}
 use Rattle.io.proofs.Counting.{prefix_len_of_le}
-use borrow.Author.Rules.{rules}
 use Rattle.cases.proofs.show.bytes.Goals as goal
 
 pub slice_bounds-numbers-end : goal.slice_bounds-numbers-end

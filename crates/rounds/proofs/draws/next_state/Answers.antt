@@ -1,4 +1,4 @@
-use Rattle.std.proofs.Common.{ℕ, ◌+◌, ◌%◌, ◌^◌, ap, ◌∙◌, rules}
+use Rattle.std.proofs.Common.{ℕ, ◌+◌, ◌%◌, ◌^◌, ap, ◌∙◌}
 use native.Mathlib.Nat.{mod-add-mod}
 use Rattle.rules.specs.Planning.{draw}
 use Rattle.rounds.proofs.draws.next_state.Goals as goal

@@ -1,4 +1,4 @@
-use Rattle.std.proofs.Common.{◌/◌, ◌≤◌, refl, mul-le-mul_right, arith, rules}
+use Rattle.std.proofs.Common.{◌/◌, ◌≤◌, refl, mul-le-mul_right, arith}
 use Rattle.rules.specs.Planning.{drawn_place}
 use Rattle.plan_laws.specs.Improve.{place_below}
 use Rattle.rounds.proofs.draws.place_of.Goals as goal

@@ -1,4 +1,4 @@
-use Rattle.std.proofs.Common.{refl, rules}
+use Rattle.std.proofs.Common.{refl}
 use Rattle.rules.specs.Planning.{swapped}
 use Rattle.rounds.proofs.draws.swap.Goals as goal
 

@@ -1,4 +1,4 @@
-use Rattle.std.proofs.Common.{ℕ, ◌*◌, ◌<◌, lt_of_le_of_lt, le_of_lt, mul-le-mul_left, arith, rules}
+use Rattle.std.proofs.Common.{ℕ, ◌*◌, ◌<◌, lt_of_le_of_lt, le_of_lt, mul-le-mul_left, arith}
 use Rattle.rounds.proofs.draws.wrapping_mul_u32.Goals as goal
 
 -- two numbers below 2^32 have a product below 2^64
