@@ -17,7 +17,7 @@ fn main() {
         println!("cargo::rustc-link-lib=static:-bundle=nesbrunka");
     } else {
         println!(
-            "cargo::warning=no {}: `rt staticlib nesbrunka` makes it; no call can be linked",
+            "cargo::warning=no {}: `scripts/build nesbrunka` makes it; no call can be linked",
             archive.display()
         );
     }

@@ -39,20 +39,20 @@
  * with their return address alone. No function calls itself. README.md says what each call holds.
  *
  *   nesbrunka_judge            336
- *   nesbrunka_pack             560
- *   nesbrunka_press            672
- *   nesbrunka_why              672
- *   nesbrunka_better           688
- *   nesbrunka_two_sides        336
- *   nesbrunka_plan             688
+ *   nesbrunka_pack             544
+ *   nesbrunka_press            784
+ *   nesbrunka_why              688
+ *   nesbrunka_better           640
+ *   nesbrunka_two_sides        288
+ *   nesbrunka_plan             704
  *   nesbrunka_improve          616
- *   nesbrunka_floor          1,328
+ *   nesbrunka_floor          1,280
  *   nesbrunka_read             312
- *   nesbrunka_write            400
+ *   nesbrunka_write            384
  *   nesbrunka_centre             8
  *   nesbrunka_centre_number      8
  *   nesbrunka_order_write      432
- *   nesbrunka_order_read       592
+ *   nesbrunka_order_read       624
  *
  * Answers. `number` is NESBRUNKA_DONE or the number of a refusal, `place` says where. A refused
  * call changes no table, and its other numbers are 0, but for `short_` beside
