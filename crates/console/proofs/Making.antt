@@ -1,13 +1,12 @@
 -- What comes after the first bytes of an input changes nothing that is made on a sheet. Assumes nothing.
 use Prim.Native.Nat.{ℕ, ◌≤◌}
-use mathlib.Core.Path.{◌≡◌, ◌∙◌}
+use mathlib.Core.Path.{◌≡◌, sym, ◌∙◌}
 use mathlib.Core.List.{List, ◌++◌}
 use native.Mathlib.Omega.{arith}
 use lib.ListN.{length, take}
-use lib.Seq.{take-append_seam}
+use lib.Seq.{take-append_seam, length-take-le}
 use Rattle.rules.specs.Tables.{cleared, Lent, lend}
 use Rattle.rules.specs.Program.{on_sheet}
-use Rattle.io.proofs.Counting.{prefix_len_of_le}
 use Rattle.sheet_laws.specs.FirstBytes.{first_bytes_from}
 use Rattle.console.specs.Made.{Made}
 
@@ -22,7 +21,7 @@ pub made_front : (text : List ℕ → List ℕ) (input out : List ℕ) (r : ℕ)
     → ((rest : List ℕ) → 65536 ≤ length input → text input ≡ text (input ++ rest)) → Made text input r out
 made_front text input out r l e f = record {
   within = l;
-  front = (prefix_len_of_le r out l).1;
+  front = sym (length-take-le r out l);
   made = e;
   whole = λ rest h. e ∙ f rest h;
 }
