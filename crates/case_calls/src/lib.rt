@@ -12,7 +12,14 @@ fn judge<W: Write>(out: &mut W, n: usize, widths: &[u16], guards: &[u8], starts:
     show::value(out, b" short", r.short);
 }
 
-fn pack<W: Write>(out: &mut W, n: usize, widths: &[u16], guards: &[u8], order: &[u8], starts: &mut [u16]) {
+fn pack<W: Write>(
+    out: &mut W,
+    n: usize,
+    widths: &[u16],
+    guards: &[u8],
+    order: &[u8],
+    starts: &mut [u16],
+) {
     let r = packing::pack(n, widths, guards, order, starts);
     show::answer(out, r.number, r.place);
     show::value(out, b" highest", r.highest);
@@ -27,7 +34,15 @@ fn press<W: Write>(out: &mut W, n: usize, widths: &[u16], guards: &[u8], starts:
     show::numbers(out, b" starts", starts);
 }
 
-fn why<W: Write>(out: &mut W, line: &[u8], n: usize, widths: &[u16], guards: &[u8], starts: &[u16], chain: &mut [u8]) {
+fn why<W: Write>(
+    out: &mut W,
+    line: &[u8],
+    n: usize,
+    widths: &[u16],
+    guards: &[u8],
+    starts: &[u16],
+    chain: &mut [u8],
+) {
     let path = number(line, b" path", b'=', 0);
     let r = reason::why(n, widths, guards, starts, path, chain);
     show::answer(out, r.number, r.place);
@@ -37,7 +52,14 @@ fn why<W: Write>(out: &mut W, line: &[u8], n: usize, widths: &[u16], guards: &[u
     show::bytes(out, b" chain", chain);
 }
 
-fn better<'a, W: Write>(out: &mut W, n: usize, widths: &[u16], guards: &[u8], order: &'a [u8], other: &'a [u8]) {
+fn better<'a, W: Write>(
+    out: &mut W,
+    n: usize,
+    widths: &[u16],
+    guards: &[u8],
+    order: &'a [u8],
+    other: &'a [u8],
+) {
     let part = packing::better(n, widths, guards, order, other);
     show::value(out, b" entries", part.len());
     show::bytes(out, b"", part);

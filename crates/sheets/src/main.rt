@@ -9,20 +9,16 @@ use std::io::Write;
 
 fn checksum_bytes(table: &[u8]) -> u64 {
     let mut total: u64 = 1;
-    let mut i = 0;
-    while i < table.len() {
-        total = (31 * total + table[i] as u64) % 65521;
-        i += 1;
+    for cell in table {
+        total = (31 * total + *cell as u64) % 65521;
     }
     total
 }
 
 fn checksum_numbers(table: &[u16]) -> u64 {
     let mut total: u64 = 1;
-    let mut i = 0;
-    while i < table.len() {
-        total = (31 * total + table[i] as u64) % 65521;
-        i += 1;
+    for cell in table {
+        total = (31 * total + *cell as u64) % 65521;
     }
     total
 }
