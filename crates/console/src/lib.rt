@@ -197,18 +197,18 @@ pub fn note<E: Write>(errors: &mut E, bytes: &[u8], about: &[u8]) -> bool
 }
 
 // How many arguments follow the program's own name.
-pub fn arguments<V: Env>(env: &V) -> usize {
+pub fn arguments(rt: &HostRuntime) -> usize {
     for place in 1..usize::MAX {
-        if !is_given(env, place) {
+        if !is_given(rt, place) {
             return place - 1;
         }
     }
     usize::MAX - 1
 }
 
-fn is_given<V: Env>(env: &V, place: usize) -> bool {
+fn is_given(rt: &HostRuntime, place: usize) -> bool {
     let mut room = [0u8; 1];
-    match env.arg(place, &mut room) {
+    match rt.arg(place, &mut room) {
         Err(FillError::NotPresent) => false,
         Err(FillError::TooLong) => true,
         Ok(_) => true,
@@ -216,10 +216,10 @@ fn is_given<V: Env>(env: &V, place: usize) -> bool {
 }
 
 // Puts an argument at the start of a text, and answers its length: 0 where it is missing, or there is no room for it.
-pub fn argument<V: Env>(env: &V, place: usize, text: &mut [u8]) -> usize
+pub fn argument(rt: &HostRuntime, place: usize, text: &mut [u8]) -> usize
     ensures { result ≤ length text.new }
 {
-    match env.arg(place, text) {
+    match rt.arg(place, text) {
         Ok(count) => count,
         Err(_) => 0,
     }
