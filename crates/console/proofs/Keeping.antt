@@ -6,11 +6,11 @@ use lib.ListN.{length, set, take, drop, length-take, length-set}
 use lib.Seq.{sets, sets-eq, get_or-take, take-append_seam}
 use native.Mathlib.Omega.{arith}
 use Rattle.std.proofs.Common.{Option}
-use Rattle.std.proofs.Common.{◌⊎◌, inl, inr, subst, append-nil}
+use Rattle.std.proofs.Common.{inl, inr, append-nil}
 use Rattle.std.proofs.lemmas.Bool.{cases_lt}
 use Rattle.std.proofs.lemmas.Grind.{common_steps}
 use Rattle.std.proofs.lemmas.List.{take_all, take-append-le}
-use Rattle.std.proofs.Math.Seq.{take-append-add, take-add}
+use Rattle.std.proofs.Math.Seq.{take-append-add}
 use Rattle.std.proofs.KnownBytes.{Consumes-nil, Consumes-trans, Consumes-kept}
 use Rattle.std.specs.Io.KnownBytes.{Consumes, Keeps}
 use Rattle.rules.specs.Tables.{at}

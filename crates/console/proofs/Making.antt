@@ -8,7 +8,7 @@ use lib.Seq.{take-append_seam, length-take-le}
 use Rattle.rules.specs.Tables.{cleared, Lent, lend}
 use Rattle.rules.specs.Program.{on_sheet}
 use Rattle.sheet_laws.specs.FirstBytes.{first_bytes_from}
-use Rattle.std.proofs.Common.{Option, Some, None, ◌⊎◌, inl, inr}
+use Rattle.std.proofs.Common.{Option, Some, None, inl, inr}
 use Rattle.std.proofs.lemmas.Bool.{cases_lt}
 use Rattle.std.proofs.lemmas.List.{take_all}
 use Rattle.std.specs.Io.KnownBytes.{Appends, IsAtEnd}

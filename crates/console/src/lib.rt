@@ -1,15 +1,17 @@
 // An inner crate of the programs: standard input read to its end, a refusal's line, and bytes written whole.
 //
-// What is proved: that every function is safe and ends, where each byte that came is put (`keep`,
-// `read_all`), and a refusal's line (`refuse`). What the system reads or writes no contract can say: that the
-// bytes that came are those of the input, each once and in order, and that those handed to `write` arrive, is
-// only seen by running a program (examples/check).
+// What is proved: that every function is safe and ends, where each byte that came is put (`keep`, `read_all`), and a
+// refusal's line (`refuse`). At any reader and writer of which it is known what they have left to give and what they
+// hold: that the bytes that came are those of the input, each once and in order, and that those handed to `write`
+// arrive. Of what the system reads or writes no contract can say that: it is only seen by running a program
+// (examples/check).
 #![tactic(auto)]
 
-ghost use Rattle.std.specs.Prelude.{◌≡◌, ◌≤◌, ◌<◌, length, take, IsNone, IsTrue, ◌↔◌};
+ghost use Rattle.std.specs.Prelude.{◌≡◌, ◌≤◌, ◌<◌, length, take, IfSome, IsNone, IsTrue, ◌↔◌};
 ghost use Rattle.std.specs.Io.KnownBytes.{Appends, IsAtEnd};
 ghost use Rattle.rules.specs.Program.{refusal_text};
 ghost use Rattle.spelling.specs.Says.{Wrote};
+ghost use Rattle.console.specs.Failed.{IsLasting};
 ghost use Rattle.console.specs.Kept.{Kept, Came, Took};
 
 use std::env::{Env, FillError};
@@ -52,7 +54,9 @@ fn keep(text: &mut [u8], have: usize, came: &[u8]) -> usize
 
 // Whether a call has failed for good. One that was interrupted, or that would have had to wait, is tried
 // again; before the latter others get their turn.
-fn has_failed(error: &Error) -> bool {
+fn has_failed(error: &Error) -> bool
+    ensures { IsTrue result ↔ IsLasting error.now }
+{
     let kind = error.kind();
     if kind == ErrorKind::WouldBlock {
         yield_now();
@@ -63,11 +67,13 @@ fn has_failed(error: &Error) -> bool {
 
 // Reads an input to its end, whatever the pieces are that it comes in. What the text has no room for is read
 // and dropped. A read that fails is not the end. A proved loop has to end, so this one counts its turns, up to a number
-// that no run uses up. Promised: the text past the length answered is as it was.
+// that no run uses up. Promised: the text past the length answered is as it was, and before it has the first bytes
+// that the reader gave, which are all that it had where nothing failed.
 pub fn read_all<R: Read>(input: &mut R, text: &mut [u8]) -> Input
     ensures came { Came text.old result.length text.new }
     ensures took { Took (R.remaining input.old) (R.remaining input.new) result.length text.new }
     ensures end { IsNone result.failure → IsAtEnd (R.remaining input.new) }
+    ensures lasting { IfSome result.failure IsLasting }
 {
     let mut have: usize = 0;
     'turns: for _ in 0..u64::MAX {
@@ -97,10 +103,11 @@ pub fn read_all<R: Read>(input: &mut R, text: &mut [u8]) -> Input
 }
 
 // Writes bytes until all are taken, a write takes none, or a write fails. Each call is handed those that are
-// left.
+// left. Promised: the writer took so many of the bytes, from the first on, each once and in order.
 pub fn write<W: Write>(out: &mut W, bytes: &[u8]) -> Written
     ensures within { result.count ≤ length bytes.now }
     ensures wrote { Appends (W.contents out.old) (W.contents out.new) (take result.count bytes.now) }
+    ensures lasting { IfSome result.failure IsLasting }
 {
     let mut done: usize = 0;
     'turns: for _ in 0..u64::MAX {
@@ -155,13 +162,10 @@ fn words(text: &str) -> &str {
 pub fn fail<E: Write>(errors: &mut E, about: &[u8], error: Error) {
     let mut line = Cursor::new([0u8; 256]);
     let _ = write!(line, "{error}");
-    let count = line.position() as usize;
+    let count = (line.position() as usize).min(256);
     let all = line.get_ref();
-    if let Some(text) = all.get(..count) {
-        if let Ok(text) = str::from_utf8(text) {
-            tell(errors, about, words(text).as_bytes());
-        }
-    }
+    let text = str::from_utf8(&all[..count]).unwrap_or("");
+    tell(errors, about, words(text).as_bytes());
 }
 
 // Whether bytes were written whole. Where they were not, it is told.

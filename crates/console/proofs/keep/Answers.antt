@@ -1,8 +1,5 @@
-use Prim.Native.Nat.{◌-◌}
-use lib.ListN.{length}
-use borrow.Author.Rules.{rules}
 use native.Mathlib.Omega.{arith}
-use Rattle.console.proofs.Keeping.{Keeping, keep_first, keep_more, keep_full, keep_end}
+use Rattle.console.proofs.Keeping.{keep_first, keep_more, keep_full, keep_end}
 use Rattle.console.proofs.keep.Goals as goal
 
 pub loop-j-init : goal.loop-j-init

@@ -1,8 +1,6 @@
 use Prim.Native.Nat.{◌-◌}
 use lib.ListN.{length}
-use borrow.Author.Rules.{rules}
-use native.Mathlib.Omega.{arith}
-use Rattle.console.proofs.Keeping.{Keeping, keep_first, keep_more, keep_full, keep_end}
+use Rattle.console.proofs.Keeping.{Keeping}
 use Rattle.console.proofs.keep.Given as goal
 
 abbrev pub invariant-loop-j : goal.invariant-loop-j

@@ -1,5 +1,4 @@
 use native.Mathlib.Omega.{arith}
-use borrow.Author.Rules.{rules}
 use Rattle.sheet_laws.specs.Writes.{digits_few}
 use Rattle.console.proofs.Refusal.{refusal_wrote, refusal_within}
 use Rattle.console.proofs.refuse.Goals as goal
