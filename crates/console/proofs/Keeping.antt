@@ -1,14 +1,22 @@
 -- Bytes that came, put after those that a text has, as far as there is room. Assumes nothing.
 use Prim.Native.Nat.{ℕ, ◌+◌, ◌-◌, ◌≤◌, ◌<◌}
 use mathlib.Core.Path.{◌≡◌, refl, sym, ap, ◌∙◌}
-use mathlib.Core.List.{List, ◌∷◌, ◌++◌}
+use mathlib.Core.List.{List, [], ◌∷◌, ◌++◌}
 use lib.ListN.{length, set, take, drop, length-take, length-set}
 use lib.Seq.{sets, sets-eq, get_or-take, take-append_seam}
 use native.Mathlib.Omega.{arith}
+use Rattle.std.proofs.Common.{Option}
+use Rattle.std.proofs.Common.{inl, inr, append-nil}
+use Rattle.std.proofs.lemmas.Bool.{cases_lt}
+use Rattle.std.proofs.lemmas.Grind.{common_steps}
+use Rattle.std.proofs.lemmas.List.{take_all, take-append-le}
+use Rattle.std.proofs.Math.Seq.{take-append-add}
+use Rattle.std.proofs.KnownBytes.{Consumes-nil, Consumes-trans, Consumes-kept}
+use Rattle.std.specs.Io.KnownBytes.{Consumes, Keeps}
 use Rattle.rules.specs.Tables.{at}
 use Rattle.sheet_laws.specs.Texts.{here, past}
 use Rattle.sheet_laws.specs.Writes.{byte, both_pieces}
-use Rattle.console.specs.Kept.{room, Kept, Came}
+use Rattle.console.specs.Kept.{room, Kept, Came, Took}
 
 -- j bytes are put; the rest is still to be
 pub record Keeping (text₀ : List ℕ) (have : ℕ) (came text : List ℕ) (k j : ℕ) : Type 0 where
@@ -63,15 +71,59 @@ front out after w r h l =
 pub none_came : (text : List ℕ) → Came text 0 text
 none_came text = record { within = omega arith; front = refl; rest = refl }
 
-pub more_came : (text₀ text text' came : List ℕ) (have r : ℕ) → Came text₀ have text → Kept text have came r text' → length text' ≡ length text₀ → Came text₀ r text'
-more_came text₀ text text' came have r h k l =
+-- what a text has once more came: that which it had, and then what there was room for
+front_more : (text₀ text text' came : List ℕ) (have r : ℕ) → Came text₀ have text → Kept text have came r text' → length text' ≡ length text₀
+    → (r ≡ 0 + length (take have text ++ room text have came)) × (text' ≡ sets text₀ 0 (take have text ++ room text have came)) × (take r text' ≡ take have text ++ room text have came)
+front_more text₀ text text' came have r h k l =
     let w = room text have came in
     let v = take have text ++ w in
     let p : have ≡ 0 + length (take have text) = omega (arith, h.front) in
     let b = both_pieces text₀ text text' 0 have r (take have text) w (p, h.rest) (k.place, k.bytes) in
-    let e = front text₀ text' v r b (omega (arith, b.0, k.within)) in
+    (b.0, b.1, front text₀ text' v r b (omega (arith, b.0, k.within)))
+
+pub more_came : (text₀ text text' came : List ℕ) (have r : ℕ) → Came text₀ have text → Kept text have came r text' → length text' ≡ length text₀ → Came text₀ r text'
+more_came text₀ text text' came have r h k l =
+    let b = front_more text₀ text text' came have r h k l in
     record {
       within = k.within;
-      front = omega (arith, b.0, ap length e);
-      rest = b.1 ∙ ap (λ (x : List ℕ). sets text₀ 0 x) (sym e);
+      front = omega (arith, b.0, ap length b.2);
+      rest = b.1 ∙ ap (λ (x : List ℕ). sets text₀ 0 x) (sym b.2);
+    }
+
+-- none was given; a call that failed took none; more was given
+pub none_took : (left : Option (List ℕ)) (text : List ℕ) → Took left left 0 text
+none_took left text = record { given = []; taken = Consumes-nil left; front = grind (arith, common_steps) }
+
+-- the first of two lists after each other: with room for more than the first of them, and without
+room_left : (given came : List ℕ) (l have : ℕ) → have ≡ length (take l given) → length given ≤ l → take l (given ++ came) ≡ take l given ++ take (l - have) came
+room_left given came l have h f =
+    let all : take l given ≡ given = take_all l given f in
+    let e : have ≡ length given = h ∙ ap length all in
+    let n : l ≡ length given + (l - have) = omega arith in
+    let a : take (length given + (l - have)) (given ++ came) ≡ given ++ take (l - have) came = take-append-add given came (l - have) in
+    ap (λ (k : ℕ). take k (given ++ came)) n ∙ a ∙ ap (λ (x : List ℕ). x ++ take (l - have) came) (sym all)
+
+no_room : (given came : List ℕ) (l have : ℕ) → have ≡ length (take l given) → l ≤ length given → take l (given ++ came) ≡ take l given ++ take (l - have) came
+no_room given came l have h f =
+    let e : l - have ≡ 0 = omega (arith, h, length-take l given) in
+    let none : take (l - have) came ≡ [] = ap (λ (k : ℕ). take k came) e in
+    take-append-le l given came f ∙ sym (ap (λ (x : List ℕ). take l given ++ x) none ∙ append-nil (take l given))
+
+first_of_both : (given came : List ℕ) (l have : ℕ) → have ≡ length (take l given) → take l (given ++ came) ≡ take l given ++ take (l - have) came
+first_of_both given came l have h =
+    elim (cases_lt l (length given)) [ inl f ↦ no_room given came l have h (omega arith) | inr f ↦ room_left given came l have h f ]
+
+pub same_took : (left left' left″ : Option (List ℕ)) (r : ℕ) (text : List ℕ) → Took left left' r text → Keeps left' left″ → Took left left″ r text
+same_took left left' left″ r text t k = record { given = t.given; taken = Consumes-kept left left' left″ t.given t.taken k; front = t.front }
+
+pub more_took : (left left' left″ : Option (List ℕ)) (text₀ text text' came : List ℕ) (have r : ℕ) → Came text₀ have text → Kept text have came r text' → length text' ≡ length text₀ → length text ≡ length text₀
+    → Took left left' have text → Consumes left' left″ came → Took left left″ r text'
+more_took left left' left″ text₀ text text' came have r h k l l' t c =
+    let b = front_more text₀ text text' came have r h k l in
+    let e : length text' ≡ length text = l ∙ sym l' in
+    let f = first_of_both t.given came (length text) have (h.front ∙ ap length t.front) in
+    record {
+      given = t.given ++ came;
+      taken = Consumes-trans left left' left″ t.given came t.taken c;
+      front = b.2 ∙ ap (λ (x : List ℕ). x ++ room text have came) t.front ∙ sym f ∙ ap (λ (n : ℕ). take n (t.given ++ came)) (sym e);
     }

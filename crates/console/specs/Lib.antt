@@ -1,2 +1,3 @@
+pub mod Failed
 pub mod Kept
 pub mod Made

@@ -1,31 +1,36 @@
 // An inner crate of the programs: standard input read to its end, a refusal's line, and bytes written whole.
 //
-// What is proved: that every function is safe and ends, where each byte that came is put (`keep`,
-// `read_all`), and a refusal's line (`refuse`). What the system reads or writes no contract can say: that the
-// bytes that came are those of the input, each once and in order, and that those handed to `write` arrive, is
-// only seen by running a program (examples/check).
+// What is proved: that every function is safe and ends, where each byte that came is put (`keep`, `read_all`), and a
+// refusal's line (`refuse`). At any reader and writer of which it is known what they have left to give and what they
+// hold: that the bytes that came are those of the input, each once and in order, and that those handed to `write`
+// arrive. Of what the system reads or writes no contract can say that: it is only seen by running a program
+// (examples/check).
 #![tactic(auto)]
 
-ghost use Rattle.std.specs.Prelude.{◌≤◌, ◌<◌, length};
+ghost use Rattle.std.specs.Prelude.{◌≡◌, ◌≤◌, ◌<◌, length, take, IfSome, IsNone, IsTrue, ◌↔◌};
+ghost use Rattle.std.specs.Io.KnownBytes.{Appends, IsAtEnd};
 ghost use Rattle.rules.specs.Program.{refusal_text};
 ghost use Rattle.spelling.specs.Says.{Wrote};
-ghost use Rattle.console.specs.Kept.{Kept, Came};
+ghost use Rattle.console.specs.Failed.{IsLasting};
+ghost use Rattle.console.specs.Kept.{Kept, Came, Took};
 
-use libc::STDERR_FILENO;
+use std::env::{Env, FillError};
+use std::io::{Cursor, Error, ErrorKind, Read, Write};
+use std::thread::yield_now;
 
-// What came of an input: whether to its end, and how many bytes of the text are from it.
+// What came of an input: how many bytes of the text are from it; and why it was not read to its end, where it was not.
 #[derive(Drop)]
 pub struct Input {
-    pub is_whole: bool,
     pub length: usize,
+    pub failure: Option<Error>,
 }
 
-// What went out: how many bytes, from the first on; and whether the last call failed. Where it did not, and
+// What went out: how many bytes, from the first on; and why the last call failed, where it did. Where it did not, and
 // bytes are left, it took none.
 #[derive(Drop)]
 pub struct Written {
     pub count: usize,
-    pub is_failed: bool,
+    pub failure: Option<Error>,
 }
 
 // Puts bytes that came into the text, after those that it has, as far as there is room. Answers how many it
@@ -49,109 +54,179 @@ fn keep(text: &mut [u8], have: usize, came: &[u8]) -> usize
 
 // Whether a call has failed for good. One that was interrupted, or that would have had to wait, is tried
 // again; before the latter others get their turn.
-fn has_failed(got: isize) -> bool {
-    if got >= 0 {
+fn has_failed(error: &Error) -> bool
+    ensures { IsTrue result ↔ IsLasting error.now }
+{
+    let kind = error.kind();
+    if kind == ErrorKind::WouldBlock {
+        yield_now();
         return false;
     }
-    let error = os::errno();
-    if error == libc::EAGAIN {
-        libc::sched_yield();
-        return false;
-    }
-    error != libc::EINTR
+    kind != ErrorKind::Interrupted
 }
 
 // Reads an input to its end, whatever the pieces are that it comes in. What the text has no room for is read
-// and dropped. A read that fails is not the end; `errno` then says why. A proved loop has to end, so this one
-// counts its turns down, from a number that no run uses up. Promised: the text past the length answered is as
-// it was.
-pub fn read_all(fd: i32, text: &mut [u8]) -> Input
-    ensures { Came text.old result.length text.new }
+// and dropped. A read that fails is not the end. A proved loop has to end, so this one counts its turns, up to a number
+// that no run uses up. Promised: the text past the length answered is as it was, and before it has the first bytes
+// that the reader gave, which are all that it had where nothing failed.
+pub fn read_all<R: Read>(input: &mut R, text: &mut [u8]) -> Input
+    ensures came { Came text.old result.length text.new }
+    ensures took { Took (R.remaining input.old) (R.remaining input.new) result.length text.new }
+    ensures end { IsNone result.failure → IsAtEnd (R.remaining input.new) }
+    ensures lasting { IfSome result.failure IsLasting }
 {
     let mut have: usize = 0;
-    let mut turns = u64::MAX;
-    while turns > 0 {
-        let mut piece = io::buffer();
-        let got = libc::read(fd, &mut piece);
-        if got == 0 {
-            return Input {
-                is_whole: true,
-                length: have,
-            };
+    'turns: for _ in 0..u64::MAX {
+        let mut piece = [0u8; 4096];
+        match input.read(&mut piece) {
+            Ok(0) => {
+                return Input {
+                    length: have,
+                    failure: None,
+                };
+            }
+            Ok(n) => have = keep(text, have, &piece[..n]),
+            Err(error) => {
+                if has_failed(&error) {
+                    return Input {
+                        length: have,
+                        failure: Some(error),
+                    };
+                }
+            }
         }
-        if has_failed(got) {
-            return Input {
-                is_whole: false,
-                length: have,
-            };
-        }
-        let n = io::count(got, &piece);
-        have = keep(text, have, &piece[..n]);
-        turns -= 1;
     }
     Input {
-        is_whole: false,
         length: have,
+        failure: Some(Error::from(ErrorKind::TimedOut)),
     }
 }
 
 // Writes bytes until all are taken, a write takes none, or a write fails. Each call is handed those that are
-// left.
-pub fn write(fd: i32, bytes: &[u8]) -> Written
-    ensures { result.count ≤ length bytes.now }
+// left. Promised: the writer took so many of the bytes, from the first on, each once and in order.
+pub fn write<W: Write>(out: &mut W, bytes: &[u8]) -> Written
+    ensures within { result.count ≤ length bytes.now }
+    ensures wrote { Appends (W.contents out.old) (W.contents out.new) (take result.count bytes.now) }
+    ensures lasting { IfSome result.failure IsLasting }
 {
     let mut done: usize = 0;
-    let mut turns = u64::MAX;
-    while turns > 0 {
+    'turns: for _ in 0..u64::MAX {
         let rest = &bytes[done..];
         if rest.len() == 0 {
             return Written {
                 count: done,
-                is_failed: false,
+                failure: None,
             };
         }
-        let got = libc::write(fd, rest);
-        if got == 0 {
-            return Written {
-                count: done,
-                is_failed: false,
-            };
+        match out.write(rest) {
+            Ok(0) => {
+                return Written {
+                    count: done,
+                    failure: None,
+                };
+            }
+            Ok(n) => done += n,
+            Err(error) => {
+                if has_failed(&error) {
+                    return Written {
+                        count: done,
+                        failure: Some(error),
+                    };
+                }
+            }
         }
-        if has_failed(got) {
-            return Written {
-                count: done,
-                is_failed: true,
-            };
-        }
-        done += io::count(got, rest);
-        turns -= 1;
     }
     Written {
         count: done,
-        is_failed: true,
+        failure: Some(Error::from(ErrorKind::TimedOut)),
     }
 }
 
-// Tells one line on standard error.
-pub fn tell(about: &[u8], why: &[u8]) {
-    write(STDERR_FILENO, about);
-    write(STDERR_FILENO, b": ");
-    write(STDERR_FILENO, why);
-    write(STDERR_FILENO, b"\n");
+// Tells one line.
+pub fn tell<E: Write>(errors: &mut E, about: &[u8], why: &[u8]) {
+    write(errors, about);
+    write(errors, b": ");
+    write(errors, why);
+    write(errors, b"\n");
 }
 
-// Writes bytes whole. Where that does not succeed, it is told, and the answer is false.
-pub fn print(fd: i32, bytes: &[u8], about: &[u8]) -> bool {
-    let written = write(fd, bytes);
+// The words for an error: those of the system alone, which std puts before the error's number.
+fn words(text: &str) -> &str {
+    match text.rsplit_once(" (os error ") {
+        Some((words, _)) => words,
+        None => text,
+    }
+}
+
+// Tells why a call failed.
+pub fn fail<E: Write>(errors: &mut E, about: &[u8], error: Error) {
+    let mut line = Cursor::new([0u8; 256]);
+    let _ = write!(line, "{error}");
+    let count = (line.position() as usize).min(256);
+    let all = line.get_ref();
+    let text = str::from_utf8(&all[..count]).unwrap_or("");
+    tell(errors, about, words(text).as_bytes());
+}
+
+// Whether bytes were written whole. Where they were not, it is told.
+fn is_whole<E: Write>(errors: &mut E, written: Written, bytes: &[u8], about: &[u8]) -> bool
+    ensures value { IsTrue result ↔ (written.count ≡ length bytes.now) }
+    ensures silent { IsTrue result → errors.new ≡ errors.old }
+{
     if written.count == bytes.len() {
         return true;
     }
-    if written.is_failed {
-        os::fail(about);
-    } else {
-        tell(about, b"a write took no bytes");
+    match written.failure {
+        Some(error) => fail(errors, about, error),
+        None => tell(errors, about, b"a write took no bytes"),
     }
     false
+}
+
+// Writes bytes whole. Where that does not succeed, it is told, and the answer is false.
+pub fn print<W: Write, E: Write>(out: &mut W, errors: &mut E, bytes: &[u8], about: &[u8]) -> bool
+    ensures wrote { IsTrue result → Appends (W.contents out.old) (W.contents out.new) bytes.now }
+    ensures silent { IsTrue result → errors.new ≡ errors.old }
+{
+    let written = write(out, bytes);
+    is_whole(errors, written, bytes, about)
+}
+
+// The same of bytes for standard error itself.
+pub fn note<E: Write>(errors: &mut E, bytes: &[u8], about: &[u8]) -> bool
+    ensures { IsTrue result → Appends (E.contents errors.old) (E.contents errors.new) bytes.now }
+{
+    let written = write(errors, bytes);
+    is_whole(errors, written, bytes, about)
+}
+
+// How many arguments follow the program's own name.
+pub fn arguments(rt: &HostRuntime) -> usize {
+    for place in 1..usize::MAX {
+        if !is_given(rt, place) {
+            return place - 1;
+        }
+    }
+    usize::MAX - 1
+}
+
+fn is_given(rt: &HostRuntime, place: usize) -> bool {
+    let mut room = [0u8; 1];
+    match rt.arg(place, &mut room) {
+        Err(FillError::NotPresent) => false,
+        Err(FillError::TooLong) => true,
+        Ok(_) => true,
+    }
+}
+
+// Puts an argument at the start of a text, and answers its length: 0 where it is missing, or there is no room for it.
+pub fn argument(rt: &HostRuntime, place: usize, text: &mut [u8]) -> usize
+    ensures { result ≤ length text.new }
+{
+    match rt.arg(place, text) {
+        Ok(count) => count,
+        Err(_) => 0,
+    }
 }
 
 // The one line of a refusal: the number, then the line.

@@ -6,10 +6,10 @@
 
 use cases::fields::{lent, number, numbers};
 use cases::{fields, show};
-use libc::STDIN_FILENO;
+use std::io::Write;
 
 // One case.
-fn case(line: &[u8]) {
+fn case<W: Write>(out: &mut W, line: &[u8]) {
     let n = number(line, b" paths", b'=', 0);
     let widths = numbers(line, b" widths");
     let mut starts = numbers(line, b" starts");
@@ -23,6 +23,7 @@ fn case(line: &[u8]) {
     let e = lent(line, b" other", rules::PATHS, 129);
     let g = lent(line, b" guards", rules::CELLS, 16385);
     case_calls::call(
+        out,
         line,
         n,
         &widths[..w],
@@ -34,28 +35,28 @@ fn case(line: &[u8]) {
 }
 
 // A case, or a line that explains.
-fn show_line(line: &[u8]) {
+fn show_line<W: Write>(out: &mut W, line: &[u8]) {
     if fields::byte_at(line, 0) < b'A' {
         return;
     }
     let end = fields::find(line, 0, b' ');
-    show::text(&line[..end]);
-    case(line);
-    show::text(b"\n");
+    show::text(out, &line[..end]);
+    case(out, line);
+    show::text(out, b"\n");
 }
 
-fn show_all(text: &[u8]) {
+fn show_all<W: Write>(out: &mut W, text: &[u8]) {
     let mut start = 0;
     while start < text.len() {
         let end = fields::find(text, start, b'\n');
-        show_line(&text[start..end]);
+        show_line(out, &text[start..end]);
         start = end + 1;
     }
 }
 
-fn main() {
-    let mut text = io::large_buffer();
-    let input = console::read_all(STDIN_FILENO, &mut text);
+fn main(rt: HostRuntime) {
+    let mut text = [0u8; 65536];
+    let input = console::read_all(&mut rt.stdin(), &mut text);
     let have = input.length;
-    show_all(&text[..have]);
+    show_all(&mut rt.stdout(), &text[..have]);
 }

@@ -2,16 +2,22 @@
 // prints the sheet with its starts, or the line of a refusal. With the argument `--verbose` a line on
 // standard error says what was planned.
 //
-// From the bytes read to the bytes printed all is proved (`printing::answer`). `main` is calls alone: that it lends
-// `answer` what standard input held, and writes what `answer` made, is seen by examples/check.
+// From the bytes read to the bytes printed all is proved, at any reader and writer whose bytes are known (`run`).
+// `main` is calls alone: that the system hands on the bytes of standard input and standard output as a reader and a
+// writer do is seen by examples/check.
 #![tactic(auto)]
 
-use libc::{STDERR_FILENO, STDIN_FILENO, STDOUT_FILENO};
+ghost use Rattle.std.specs.Prelude.{IsTrue};
+ghost use Rattle.rules.specs.Program.{printed};
+ghost use Rattle.printing.specs.Made.{noted};
+ghost use Rattle.console.specs.Made.{WroteFrom, WroteOf};
+
+use std::io::{Read, Write};
 use text::Next;
 
 // Whether `--verbose` is the one argument.
 fn is_verbose(count: usize, word: &[u8]) -> bool {
-    if count != 2 {
+    if count != 1 {
         return false;
     }
     match text::word(word, 0, b"--verbose") {
@@ -20,13 +26,17 @@ fn is_verbose(count: usize, word: &[u8]) -> bool {
     }
 }
 
-// Prints what is made of the input.
-fn respond(input: &[u8], verbose: bool) {
+// Prints what is made of the input. Where that is the first 65,536 bytes of a sheet, it is what is made of that sheet.
+fn respond<W: Write, E: Write>(out: &mut W, errors: &mut E, input: &[u8], verbose: bool) -> bool
+    ensures wrote { IsTrue result → WroteFrom printed input.now (W.contents out.old) (W.contents out.new) }
+    ensures told { IsTrue result → IsTrue verbose
+        → WroteFrom noted input.now (E.contents errors.old) (E.contents errors.new) }
+{
     let mut labels = [0u8; rules::LABELS];
     let mut widths = [0u16; rules::PATHS];
     let mut guards = [0u8; rules::CELLS];
     let mut starts = [0u16; rules::PATHS];
-    let mut out = [0u8; rules::SHEET_MOST];
+    let mut text = [0u8; rules::SHEET_MOST];
     let mut line = [0u8; 80];
     let made = printing::answer(
         input,
@@ -34,40 +44,52 @@ fn respond(input: &[u8], verbose: bool) {
         &mut widths,
         &mut guards,
         &mut starts,
-        &mut out,
+        &mut text,
         &mut line,
     );
     let m = made.out;
     let e = made.line;
-    if console::print(STDOUT_FILENO, &out[..m], b"plan: standard output") && verbose {
-        console::print(STDERR_FILENO, &line[..e], b"plan: standard error");
+    let is_printed = console::print(out, errors, &text[..m], b"plan: standard output");
+    if !is_printed || !verbose {
+        return is_printed;
     }
+    console::note(errors, &line[..e], b"plan: standard error")
 }
 
 // The text holds the first 65,536 bytes of the input, more than the longest sheet has. Its answer is the
-// answer for the whole input, as `answer` promises.
-fn run(verbose: bool) {
-    let mut text = io::large_buffer();
-    let input = console::read_all(STDIN_FILENO, &mut text);
-    if !input.is_whole {
-        os::fail(b"plan: standard input");
-        return;
+// answer for the whole input, as `answer` promises. Answers whether all was printed; what kept it from that is told.
+fn run<R: Read, W: Write, E: Write>(
+    input: &mut R,
+    out: &mut W,
+    errors: &mut E,
+    verbose: bool,
+) -> bool
+    ensures wrote { IsTrue result
+        → WroteOf printed (R.remaining input.old) (W.contents out.old) (W.contents out.new) }
+    ensures told { IsTrue result → IsTrue verbose
+        → WroteOf noted (R.remaining input.old) (E.contents errors.old) (E.contents errors.new) }
+{
+    let mut text = [0u8; 65536];
+    let came = console::read_all(input, &mut text);
+    if let Some(error) = came.failure {
+        console::fail(errors, b"plan: standard input", error);
+        return false;
     }
-    let have = input.length;
-    respond(&text[..have], verbose);
+    let have = came.length;
+    respond(out, errors, &text[..have], verbose)
 }
 
-fn main() {
-    let count = os::arg_count();
-    if count < 2 {
-        run(false);
+fn main(rt: HostRuntime) {
+    let count = console::arguments(&rt);
+    if count == 0 {
+        run(&mut rt.stdin(), &mut rt.stdout(), &mut rt.stderr(), false);
         return;
     }
-    let mut word = io::buffer();
-    let k = os::arg(1, &mut word);
+    let mut word = [0u8; 4096];
+    let k = console::argument(&rt, 1, &mut word);
     if is_verbose(count, &word[..k]) {
-        run(true);
+        run(&mut rt.stdin(), &mut rt.stdout(), &mut rt.stderr(), true);
         return;
     }
-    console::tell(b"plan", b"unknown argument");
+    console::tell(&mut rt.stderr(), b"plan", b"unknown argument");
 }

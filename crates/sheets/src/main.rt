@@ -5,24 +5,20 @@
 
 ghost use Rattle.std.specs.Prelude.{◌≤◌, ◌<◌, length};
 
-use libc::{STDIN_FILENO, STDOUT_FILENO};
+use std::io::Write;
 
 fn checksum_bytes(table: &[u8]) -> u64 {
     let mut total: u64 = 1;
-    let mut i = 0;
-    while i < table.len() {
-        total = (31 * total + table[i] as u64) % 65521;
-        i += 1;
+    for cell in table {
+        total = (31 * total + *cell as u64) % 65521;
     }
     total
 }
 
 fn checksum_numbers(table: &[u16]) -> u64 {
     let mut total: u64 = 1;
-    let mut i = 0;
-    while i < table.len() {
-        total = (31 * total + table[i] as u64) % 65521;
-        i += 1;
+    for cell in table {
+        total = (31 * total + *cell as u64) % 65521;
     }
     total
 }
@@ -42,39 +38,39 @@ fn sheet_end(bundle: &[u8], start: usize) -> usize
     i
 }
 
-fn print(value: u64) {
-    io::print_decimal(STDOUT_FILENO, value);
-    io::write_all(STDOUT_FILENO, b" ");
+fn print<W: Write>(out: &mut W, value: u64) {
+    let _ = write!(out, "{value} ");
 }
 
 // Reads one sheet over tables of junk, and prints its line.
-fn show(text: &[u8]) {
+fn show<W: Write>(out: &mut W, text: &[u8]) {
     let mut labels = [7u8; 1024];
     let mut widths = [7u16; 128];
     let mut guards = [7u8; 16384];
     let mut starts = [7u16; 128];
     let r = sheet::read(text, &mut labels, &mut widths, &mut guards, &mut starts);
-    print(r.number as u64);
-    print(r.place as u64);
-    print(r.n as u64);
-    print(checksum_bytes(&labels));
-    print(checksum_numbers(&widths));
-    print(checksum_bytes(&guards));
-    print(checksum_numbers(&starts));
-    io::write_all(STDOUT_FILENO, b"\n");
+    print(out, r.number as u64);
+    print(out, r.place as u64);
+    print(out, r.n as u64);
+    print(out, checksum_bytes(&labels));
+    print(out, checksum_numbers(&widths));
+    print(out, checksum_bytes(&guards));
+    print(out, checksum_numbers(&starts));
+    console::write(out, b"\n");
 }
 
-fn show_all(bundle: &[u8]) {
+fn show_all<W: Write>(out: &mut W, bundle: &[u8]) {
     let mut start = 0;
     while start < bundle.len() {
         let end = sheet_end(bundle, start);
-        show(&bundle[start..end]);
+        show(out, &bundle[start..end]);
         start = end + 1;
     }
 }
 
-fn main() {
-    let mut text = io::large_buffer();
-    let n = io::read_full(STDIN_FILENO, &mut text);
-    show_all(&text[..n]);
+fn main(rt: HostRuntime) {
+    let mut text = [0u8; 65536];
+    let input = console::read_all(&mut rt.stdin(), &mut text);
+    let have = input.length;
+    show_all(&mut rt.stdout(), &text[..have]);
 }

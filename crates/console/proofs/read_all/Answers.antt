@@ -1,20 +1,27 @@
-use borrow.Author.Rules.{rules}
-use native.Mathlib.Omega.{arith}
-use Rattle.console.proofs.Keeping.{none_came, more_came}
+use Rattle.std.proofs.Common.{ℕ, List, take, arith, sym, subst₂}
+use Rattle.console.specs.Kept.{Came, Took}
+use Rattle.console.proofs.Keeping.{more_came, more_took, same_took}
 use Rattle.console.proofs.read_all.Goals as goal
+use Rattle.console.proofs.read_all.Goals.{in-Ok, in-Err+else-has_failed}
 
-pub loop-turns-init : goal.loop-turns-init
-loop-turns-init c = (search rules, none_came c.args.text.now)
-
-pub returns-then-got-eq0 : goal.returns-then-got-eq0
-returns-then-got-eq0 c = c.loop-turns.invariant.1
-
-pub returns-then-has_failed : goal.returns-then-has_failed
-returns-then-has_failed c = c.loop-turns.invariant.1
-
-pub loop-turns-preserved : goal.loop-turns-preserved
-loop-turns-preserved c =
-    (omega arith, more_came c.args.text.now c.loop-turns.text c.keep-have.new.text _ c.loop-turns.have c.keep-have.result c.loop-turns.invariant.1 c.keep-have.ensures (omega arith))
-
-pub returns : goal.returns
-returns c = c.loop-turns.invariant.1
+pub turns-preserved : goal.turns-preserved
+turns-preserved g c =
+    elim c.match-read.branch [
+      | in-Ok w ↦
+          let h = c.turns.invariant in
+          let came : List ℕ = take w.in-Ok.n c.read.new.buf in
+          let more : Came c.args.text.now w.keep-have.result w.keep-have.new.text =
+          more_came c.args.text.now c.turns.text w.keep-have.new.text came c.turns.have w.keep-have.result h.came w.keep-have.ensures (omega arith) in
+          let took : Took (g.R.Read.remaining c.args.input.now) (g.R.Read.remaining c.read.new.self) w.keep-have.result w.keep-have.new.text =
+          more_took _ _ _ c.args.text.now c.turns.text w.keep-have.new.text came c.turns.have w.keep-have.result h.came w.keep-have.ensures
+          (omega arith) (omega arith) h.took w.in-Ok.ensures.bytes.0 in
+          record {
+            came = subst₂ (λ (k : ℕ) (x : List ℕ). Came c.args.text.now k x) (sym w.have-is) (sym w.text-is) more;
+            took = subst₂ (λ (k : ℕ) (x : List ℕ). Took (g.R.Read.remaining c.args.input.now) (g.R.Read.remaining c.read.new.self) k x) (sym w.have-is) (sym w.text-is) took;
+          }
+      | in-Err+else-has_failed w ↦ record {
+        came = subst₂ (λ (k : ℕ) (x : List ℕ). Came c.args.text.now k x) (sym w.have-is) (sym w.text-is) c.turns.invariant.came;
+        took = subst₂ (λ (k : ℕ) (x : List ℕ). Took (g.R.Read.remaining c.args.input.now) (g.R.Read.remaining c.read.new.self) k x) (sym w.have-is) (sym w.text-is)
+            (same_took _ _ _ _ _ c.turns.invariant.took w.in-Err.ensures.bytes);
+      }
+    ]

@@ -1,10 +1,8 @@
-use mathlib.Core.Path.{◌≡◌}
-use lib.ListN.{length}
-use Rattle.console.specs.Kept.{Came}
+use Rattle.console.specs.Kept.{Came, Took}
 use Rattle.console.proofs.read_all.Given as goal
 
-abbrev pub invariant-loop-turns : goal.invariant-loop-turns
-invariant-loop-turns l = (length l.text ≡ length l.initial.text) × Came l.initial.text l.have l.text
-
-abbrev pub decreases-loop-turns : goal.decreases-loop-turns
-decreases-loop-turns l = l.turns
+abbrev pub invariant-turns : goal.invariant-turns
+invariant-turns g l = record {
+  came : Came l.initial.text l.have l.text;
+  took : Took (g.R.Read.remaining l.initial.input) (g.R.Read.remaining l.input) l.have l.text;
+}

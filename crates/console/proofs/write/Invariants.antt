@@ -1,9 +1,9 @@
-use Prim.Native.Nat.{◌≤◌}
-use lib.ListN.{length}
+use Rattle.std.proofs.Common.{◌≤◌, length, take}
+use Rattle.std.specs.Io.KnownBytes.{Appends}
 use Rattle.console.proofs.write.Given as goal
 
-abbrev pub invariant-loop-turns : goal.invariant-loop-turns
-invariant-loop-turns l = l.done ≤ length l.bytes
-
-abbrev pub decreases-loop-turns : goal.decreases-loop-turns
-decreases-loop-turns l = l.turns
+abbrev pub invariant-turns : goal.invariant-turns
+invariant-turns g l = record {
+  within : l.done ≤ length l.bytes;
+  wrote : Appends (g.W.Write.contents l.initial.out) (g.W.Write.contents l.out) (take l.done l.bytes);
+}
