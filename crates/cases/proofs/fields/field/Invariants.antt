@@ -1,6 +1,5 @@
 use Prim.Native.Nat.{◌≤◌, ◌-◌}
 use lib.ListN.{length}
-use borrow.Author.Rules.{rules}
 use Rattle.cases.proofs.fields.field.Given as goal
 
 abbrev pub invariant-loop-place : goal.invariant-loop-place
