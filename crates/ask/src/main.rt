@@ -2,9 +2,10 @@
 // the plan is valid, and `ask order ANCHOR` prints its order sheet. The sheet with its plan comes from standard
 // input, and the answer, in lines that can be read aloud, goes to standard output.
 //
-// From the arguments and the bytes read to the bytes printed all is proved, at any reader and writer whose bytes are
-// known (`run`). `main` is calls alone: that it lends `run` what the arguments held, and that the system hands on the
-// bytes of standard input and standard output as a reader and a writer do, is only seen by running it.
+// From the arguments and the bytes read to the bytes printed all is proved (`asking::answer`); and where `run` answers
+// that it was printed whole, that the writer took it, at any reader and writer whose bytes are known. `main` is calls
+// alone: that it lends `run` what the arguments held, that nothing fails, and that the system hands on the bytes of
+// standard input and standard output as a reader and a writer do, is only seen by running it.
 #![tactic(auto)]
 
 ghost use Rattle.std.specs.Prelude.{IsTrue};
@@ -46,7 +47,7 @@ fn respond<W: Write, E: Write>(
 
 // Where no sheet is asked for, the input is left alone: the answer is the same whatever it holds, as `needs_input`
 // promises. Else the text holds its first 65,536 bytes, more than the longest sheet has, and the answer is that for
-// the whole input, as `answer` promises. Answers whether it was printed whole; what kept it from that is told.
+// the whole input, as `answer` promises. Answers whether it was printed whole.
 fn run<R: Read, W: Write, E: Write>(
     input: &mut R,
     out: &mut W,

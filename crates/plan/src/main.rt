@@ -2,9 +2,10 @@
 // prints the sheet with its starts, or the line of a refusal. With the argument `--verbose` a line on
 // standard error says what was planned.
 //
-// From the bytes read to the bytes printed all is proved, at any reader and writer whose bytes are known (`run`).
-// `main` is calls alone: that the system hands on the bytes of standard input and standard output as a reader and a
-// writer do is seen by examples/check.
+// From the bytes read to the bytes printed all is proved (`printing::answer`); and where `run` answers that all was
+// printed, that the writer took it, at any reader and writer whose bytes are known. `main` is calls alone: that nothing
+// fails, and that the system hands on the bytes of standard input and standard output as a reader and a writer do, is
+// seen by examples/check.
 #![tactic(auto)]
 
 ghost use Rattle.std.specs.Prelude.{IsTrue};
@@ -57,7 +58,7 @@ fn respond<W: Write, E: Write>(out: &mut W, errors: &mut E, input: &[u8], verbos
 }
 
 // The text holds the first 65,536 bytes of the input, more than the longest sheet has. Its answer is the
-// answer for the whole input, as `answer` promises. Answers whether all was printed; what kept it from that is told.
+// answer for the whole input, as `answer` promises. Answers whether all was printed.
 fn run<R: Read, W: Write, E: Write>(
     input: &mut R,
     out: &mut W,

@@ -59,8 +59,8 @@ pub fn answer(
 ) -> Lengths
     requires { (length labels.old ≡ 1024) × (length widths.old ≡ 128) × (length guards.old ≡ 16384)
         × (length starts.old ≡ 128) × (length out.old ≡ 45489) × (length line.old ≡ 80) }
-    ensures made { Made printed input.now result.out out.new }
-    ensures made_2 { Made noted input.now result.line line.new }
+    ensures prints { Made printed input.now result.out out.new }
+    ensures notes { Made noted input.now result.line line.new }
 {
     let got = sheet::read(input, labels, widths, guards, starts);
     if got.number != 0 {
