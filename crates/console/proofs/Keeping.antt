@@ -8,10 +8,9 @@ use native.Mathlib.Omega.{arith}
 use Rattle.std.proofs.Common.{Option}
 use Rattle.std.proofs.Common.{inl, inr, append-nil}
 use Rattle.std.proofs.lemmas.Bool.{cases_lt}
-use Rattle.std.proofs.lemmas.Grind.{common_steps}
 use Rattle.std.proofs.lemmas.List.{take_all, take-append-le}
 use Rattle.std.proofs.Math.Seq.{take-append-add}
-use Rattle.std.proofs.KnownBytes.{Consumes-nil, Consumes-trans, Consumes-kept}
+use Rattle.std.proofs.KnownBytes.{Consumes-trans, Consumes-kept}
 use Rattle.std.specs.Io.KnownBytes.{Consumes, Keeps}
 use Rattle.rules.specs.Tables.{at}
 use Rattle.sheet_laws.specs.Texts.{here, past}
@@ -89,10 +88,6 @@ more_came text₀ text text' came have r h k l =
       front = omega (arith, b.0, ap length b.2);
       rest = b.1 ∙ ap (λ (x : List ℕ). sets text₀ 0 x) (sym b.2);
     }
-
--- none was given; a call that failed took none; more was given
-pub none_took : (left : Option (List ℕ)) (text : List ℕ) → Took left left 0 text
-none_took left text = record { given = []; taken = Consumes-nil left; front = grind (arith, common_steps) }
 
 -- the first of two lists after each other: with room for more than the first of them, and without
 room_left : (given came : List ℕ) (l have : ℕ) → have ≡ length (take l given) → length given ≤ l → take l (given ++ came) ≡ take l given ++ take (l - have) came

@@ -23,6 +23,7 @@ returns-then-fault-ne0 c =
 
 pub slice_bounds-sheet-end : goal.slice_bounds-sheet-end
 slice_bounds-sheet-end c =
+    -- the call of the writing, by the anchor as it is counted
     let wrote : left c.order_write-written.result c.order_write-written.new.text ≡ order_writing (lowered c.args.anchor) c.args.n c.args.labels.now (lend c.args.widths.now c.args.guards.now) c.args.starts.now (replicate 2314 0) = c.order_write-written.ensures
     ∙ ap (λ (z : ℤ). order_writing z c.args.n c.args.labels.now (lend c.args.widths.now c.args.guards.now) c.args.starts.now (replicate 2314 0)) (lowered_on c.args.anchor c.requires.0 c.uncounted.result c.uncounted.ensures) in
     order_within (lowered c.args.anchor) c.args.n c.args.labels.now (lend c.args.widths.now c.args.guards.now) c.args.starts.now c.judge-fault.result c.judge-fault.ensures (replicate 2314 0) c.order_write-written.new.text c.order_write-written.result blank_order (wrote)

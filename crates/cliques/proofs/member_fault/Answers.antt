@@ -25,6 +25,7 @@ returns-then-n-path_at c = λ lent q. rw q (c.refused.ensures ∙ sym (scan_at 1
 
 pub has_stranger-requires : goal.has_stranger-requires
 has_stranger-requires c =
+    -- the entry that was read is a path
     let known : at c.args.list.now c.loop-k.k < c.args.n = rw (← c.path_at.ensures) (omega arith) in
     let entry : at c.args.list.now c.loop-k.k < 128 = omega (arith, known, c.requires.0) in
     record { full_guards = c.requires.1; room = omega arith; inside = below_more _ _ (λ i l. omega (arith, c.loop-k.invariant.1 i l, c.requires.0)) (entry) }

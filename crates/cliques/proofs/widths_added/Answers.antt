@@ -14,6 +14,7 @@ loop-i-init c = (omega arith, refl, omega arith)
 
 pub offset_bounds-widths-k : goal.offset_bounds-widths-k
 offset_bounds-widths-k c =
+    -- the path read is a path, and its width fits
     let entry : (c.path_at-k.result < 128) × (at c.args.widths.now c.path_at-k.result ≤ 64) = rw c.path_at-k.ensures (c.requires.1.1 c.loop-i.i c.loop-i-test.true) in
     omega (arith, entry)
 

@@ -31,6 +31,7 @@ least_key-c-requires c = omega (arith, c.loop-m.invariant.0, c.requires.0.few, c
 
 pub offset_bounds-widths-c : goal.offset_bounds-widths-c
 offset_bounds-widths-c c =
+    -- what is kept so far, over some table
     let so_far : Growing c.args.n (lend c.args.widths.now c.args.guards.now) c.args.order.now (replicate 128 0) c.loop-m.order c.loop-m.need c.loop-m.m = c.loop-m.invariant.1 (replicate 128 0) refl in
     let turn : Turn c.args.n (at c.args.widths.now c.least_key-c.result) (at c.loop-m.need c.least_key-c.result) c.loop-m.m c.least_key-c.result (length c.loop-m.need) (length c.loop-m.order) = let g = so_far in
     let k = growing_below c.args.n (lend c.args.widths.now c.args.guards.now) c.args.order.now (replicate 128 0) c.requires.0 c.requires.1 refl c.loop-m.order c.loop-m.need c.loop-m.m g c.loop-m-test.true c.least_key-c.result c.least_key-c.ensures in

@@ -45,6 +45,7 @@ copy-requires-in-Over c = c.order_part.auto.starts ∙ ap length c.copy.ensures
 pub returns-in-Halt : goal.returns-in-Halt
 returns-in-Halt c =
     let tested : c.lent_fault-fault.result ≡ order_read_fault c.args.anchor c.args.n c.args.labels.now (lend c.args.widths.now c.args.guards.now) c.args.starts.now = c.lent_fault-fault.ensures ∙ ap (λ (z : ℤ). order_read_fault z c.args.n c.args.labels.now (lend c.args.widths.now c.args.guards.now) c.args.starts.now) (to_z-of_z c.ranges.anchor) in
+    -- the work on a copy of the starts, by the anchor as it is counted, is the work on the starts
     let work : order_from c.args.anchor c.args.n c.args.labels.now c.args.widths.now c.args.starts.now c.args.text.now ≡ order_from (lowered c.counted-low.result) c.args.n c.args.labels.now c.args.widths.now c.copy.new.to c.args.text.now = ap (λ (z : ℤ). order_from z c.args.n c.args.labels.now c.args.widths.now c.args.starts.now c.args.text.now) (sym (to_z-of_z c.ranges.anchor) ∙ c.counted-low.ensures.0)
     ∙ ap (λ (t : List ℕ). order_from (lowered c.counted-low.result) c.args.n c.args.labels.now c.args.widths.now t c.args.text.now) (sym c.copy.ensures) in
     let z : SectionIs c.args.text.now c.order_part.new.starts (order_from (lowered c.counted-low.result) c.args.n c.args.labels.now c.args.widths.now c.copy.new.to c.args.text.now) (Halt c.in-Halt.number c.in-Halt.line) = rw c.in-Halt.is at c.order_part.ensures in

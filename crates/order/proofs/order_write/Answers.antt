@@ -36,6 +36,7 @@ order_length-length-requires c =
 pub returns-then-text-length : goal.returns-then-text-length
 returns-then-text-length c =
     let tested : c.table_fault-fault.result ≡ table_fault c.args.anchor c.args.n c.args.labels.now (lend c.args.widths.now c.args.guards.now) c.args.starts.now = c.table_fault-fault.ensures ∙ ap (λ (z : ℤ). table_fault z c.args.n c.args.labels.now (lend c.args.widths.now c.args.guards.now) c.args.starts.now) (to_z-of_z c.ranges.anchor) in
+    -- the sheet, by the anchor as it is counted
     let sheet : order_text c.args.anchor c.args.n c.args.labels.now c.args.widths.now c.args.starts.now ≡ order_text (lowered c.counted-low.result) c.args.n c.args.labels.now c.args.widths.now c.args.starts.now = ap (λ (z : ℤ). order_text z c.args.n c.args.labels.now c.args.widths.now c.args.starts.now) (sym (to_z-of_z c.ranges.anchor) ∙ c.counted-low.ensures.0) in
     written_short (order_text c.args.anchor c.args.n c.args.labels.now c.args.widths.now c.args.starts.now) c.args.text.now (table_fault c.args.anchor c.args.n c.args.labels.now (lend c.args.widths.now c.args.guards.now) c.args.starts.now) c.table_fault-fault.result (tested) c.if-fault-ne0.false
     (omega (arith, c.order_length-length.ensures, ap length (sheet)))

@@ -15,6 +15,7 @@ use Rattle.order_writer.proofs.put_line.Goals as goal
 
 pub put_label-p-requires : goal.put_label-p-requires
 put_label-p-requires c =
+    -- the length of the whole line, by its fields
     let whole : length (order_line_text (lowered c.args.anchor) c.args.labels.now c.args.widths.now c.args.starts.now c.args.k) ≡ length (label_of c.args.labels.now c.args.k) + length (signed_numeral (lowered c.line_number-n.result)) + length (numeral (at c.args.widths.now c.args.k)) + 3 = let e = ap (λ (z : ℤ). length (signed_numeral z)) c.line_number-n.ensures.0 in
     omega (arith, order_line_length (lowered c.args.anchor) c.args.labels.now c.args.widths.now c.args.starts.now c.args.k, e) in
     (c.requires.0.row, omega (arith, whole, c.requires.1))

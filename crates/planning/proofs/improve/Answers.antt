@@ -11,6 +11,7 @@ returns-then-f-ne0 c =
 
 pub improve_order-run-requires : goal.improve_order-run-requires
 improve_order-run-requires c =
+    -- what the tests have accepted
     let clear : Packable c.args.n (lend c.args.widths.now c.args.guards.now) c.args.order.now c.args.starts.now × (c.args.rounds ≤ 10000) = improve_clear c.args.n (lend c.args.widths.now c.args.guards.now) c.args.order.now c.args.starts.now c.args.seed c.args.rounds _ _ c.then_rounds-f.ensures (c.pack_fault-packing.ensures c.args.starts.now refl) c.if-f-ne0.false in
     clear
 

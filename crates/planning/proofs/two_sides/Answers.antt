@@ -8,6 +8,7 @@ use Rattle.planning.proofs.two_sides.Goals as goal
 
 pub returns-then-f-ne0 : goal.returns-then-f-ne0
 returns-then-f-ne0 c =
+    -- the tests before 9
     let tested : c.lent_fault-f.result ≡ lent_fault c.args.n (lend c.args.widths.now c.args.guards.now) (size_fault c.args.order.now 128) = c.lent_fault-f.ensures ∙ ap (lent_fault c.args.n (lend c.args.widths.now c.args.guards.now)) (size_is c.args.order.now _ 128 c.size_fault-sizes.ensures refl) in
     two_refused c.args.n (lend c.args.widths.now c.args.guards.now) c.args.order.now _ (tested) c.if-f-ne0.true
 

@@ -14,6 +14,7 @@ loop-k-init c =
 
 pub one_round-run-requires : goal.one_round-run-requires
 one_round-run-requires c =
+    -- the order so far, and the table as it stands, can be packed
     let standing : Packable c.args.n (lend c.args.widths.now c.args.guards.now) c.loop-k.order c.loop-k.need = improving_packable c.args.n (lend c.args.widths.now c.args.guards.now) c.args.order.now c.args.seed c.args.need.now c.requires.0 c.loop-k.order c.loop-k.run c.loop-k.k c.loop-k.invariant.1.0 c.loop-k.need
     (c.loop-k.invariant.1.1.size ∙ c.height_of-h.ensures.kept_from.size ∙ c.requires.0.starts_size) in
     (standing, omega (arith, c.loop-k.invariant.1.0.few, c.loop-k-test.true, c.requires.1))

@@ -23,6 +23,7 @@ next_path-c-requires c =
 pub bounds-mark-c : goal.bounds-mark-c
 bounds-mark-c c =
     let so_far : Spreading c.args.n (some c.args.guards.now) c.loop-m.mark c.loop-m.m = c.loop-m.invariant (some c.args.guards.now) refl in
+    -- what is known in a turn: the next path is a path, and its mark is 1 or 2
     let turn : (c.next_path-c.result < c.args.n) × (length c.loop-m.mark ≡ 128) = (spreading_below c.args.n (some c.args.guards.now) c.requires.0 c.loop-m.mark c.loop-m.m (so_far) c.loop-m-test.true c.next_path-c.result _ c.next_path-c.ensures refl, (so_far).full) in
     omega (arith, turn)
 

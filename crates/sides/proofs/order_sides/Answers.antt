@@ -8,6 +8,7 @@ put_side-low-requires c =
 
 pub put_side-requires : goal.put_side-requires
 put_side-requires c =
+    -- the low paths are in the order
     let low_put : Passing (sides_of c.args.mark.now) c.args.n c.args.order.now c.put_side-low.new.order 1 0 c.put_side-low.result = let key = sides_of c.args.mark.now in
     passing_next key c.args.n c.args.order.now _ 0 c.args.n c.put_side-low.result (c.put_side-low.ensures c.args.order.now (passing_first key c.args.n c.args.order.now c.requires.1.1)) refl in
     (c.requires.0, (c.requires.1.0, (c.args.order.now, low_put)))

@@ -9,6 +9,7 @@ loop-k-init c = (search rules, λ before a. a)
 
 pub put_path-p-requires : goal.put_path-p-requires
 put_path-p-requires c =
+    -- there is an order that these are arranged from
     let so_far : Passing (sides_of c.args.mark.now) c.args.n c.requires.1.1.0 c.loop-k.order c.args.side c.loop-k.k c.loop-k.p = c.loop-k.invariant.1 c.requires.1.1.0 c.requires.1.1.1 in
     let a = so_far in
     let key = sides_of c.args.mark.now in (

@@ -13,6 +13,7 @@ loop-left-init c = (refl, omega arith, omega arith, omega arith, refl)
 
 pub overflow_sub-p : goal.overflow_sub-p
 overflow_sub-p c =
+    -- p stands one digit behind the tenth that is left after this turn
     let ahead : c.loop-left.p ≡ c.args.place + length (numeral (c.loop-left.left / 10)) + 1 = omega (arith, c.loop-left.invariant.1, digits_more c.loop-left.left (omega arith) c.loop-left.invariant.3) in
     omega (arith, ahead)
 

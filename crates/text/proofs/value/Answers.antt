@@ -19,6 +19,7 @@ overflow_mul-v c = omega (arith, digits_few c.loop-i.v c.args.place c.loop-i.i 5
 
 pub digit-requires : goal.digit-requires
 digit-requires c =
+    -- within the loop a digit stands at i
     let more : (c.loop-i.i < length c.args.text.now) × (is_digit (get_or c.args.text.now c.loop-i.i 0) ≡ true) = run_more is_digit c.args.text.now c.loop-i.i (omega arith) in
     digit_bounds _ (more).1
 

@@ -13,6 +13,7 @@ loop-j-init c = (omega arith, (refl, (refl, (refl, c.requires.1.1.1))))
 
 pub least_from-requires : goal.least_from-requires
 least_from-requires c =
+    -- the set is one of 256, and there is room for its walks
     let turn : (c.args.s < 256) × (8 * c.args.s + 8 ≤ length c.loop-j.walks) = (omega (arith, power_most c.args.k c.requires.0), omega (arith, c.loop-j.invariant.1.1.1.0)) in
     let t = turn in
     (t.0, (t.1, own_le c.args.s c.loop-j.j c.loop-j.own c.loop-j.cut c.loop-j.invariant.1.0 c.loop-j.invariant.1.1.0))

@@ -16,6 +16,7 @@ overflow_cast-to c = omega (arith, c.shared_slice_known-in-loop-q-1.given c.loop
 
 pub overflow_mul-row : goal.overflow_mul-row
 overflow_mul-row c =
+    -- entries of the list are paths
     let from_lt : at c.args.list.now c.args.p < 128 = c.requires.1.1.1 c.args.p c.requires.1.1.0 in
     omega (arith, from_lt)
 

@@ -20,11 +20,13 @@ loop-s-init c =
 
 pub fill_set-requires : goal.fill_set-requires
 fill_set-requires c =
+    -- the table has room for all sets
     let room : 8 * power c.args.last ≤ length c.args.walks.now = rw c.requires.1.1.1.1 (rw (cleared_length c.requires.1.1.0 255) c.requires.1.1.1.0) in
     (omega (arith, c.requires.0), (omega arith, (omega (arith, room, c.loop-s.invariant.1.1.0), c.loop-s.invariant.1.1.1)))
 
 pub overflow_add-s : goal.overflow_add-s
 overflow_add-s c =
+    -- there are at most 256 sets
     let most : c.sets-half.result ≤ 256 = omega (arith, c.sets-half.ensures, power_most c.args.last (omega (arith, c.requires.0))) in
     omega (arith, most)
 
