@@ -7,6 +7,7 @@ use Rattle.rules.specs.Tables.{at, lend}
 use Rattle.table_laws.specs.Updates.{update_set}
 use Rattle.plan_laws.specs.Growing.{Growing, growing_first, growing_below, growing_bound, growing_more, growing_last}
 use Rattle.greedy.proofs.greedy_order.Goals as goal
+use Rattle.greedy.proofs.greedy_order.Goals.{At-loop-m}
 
 -- what is known in a turn: the chosen path is a path, and the sums fit
 record Turn (n width need m c full long : ℕ) : Type 0 where
@@ -18,6 +19,10 @@ record Turn (n width need m c full long : ℕ) : Type 0 where
   pub thin : width ≤ 64
   pub wide : full ≡ 128
   pub room : long ≡ 128
+
+-- what is kept so far, over some table
+so_far : (c : At-loop-m) → Growing c.args.n (lend c.args.widths.now c.args.guards.now) c.args.order.now (replicate 128 0) c.loop-m.order c.loop-m.need c.loop-m.m
+so_far c = c.loop-m.invariant.1 (replicate 128 0) refl
 
 pub loop-m-init : goal.loop-m-init
 loop-m-init c =
@@ -31,9 +36,7 @@ least_key-c-requires c = omega (arith, c.loop-m.invariant.0, c.requires.0.few, c
 
 pub offset_bounds-widths-c : goal.offset_bounds-widths-c
 offset_bounds-widths-c c =
-    -- what is kept so far, over some table
-    let so_far : Growing c.args.n (lend c.args.widths.now c.args.guards.now) c.args.order.now (replicate 128 0) c.loop-m.order c.loop-m.need c.loop-m.m = c.loop-m.invariant.1 (replicate 128 0) refl in
-    let turn : Turn c.args.n (at c.args.widths.now c.least_key-c.result) (at c.loop-m.need c.least_key-c.result) c.loop-m.m c.least_key-c.result (length c.loop-m.need) (length c.loop-m.order) = let g = so_far in
+    let turn : Turn c.args.n (at c.args.widths.now c.least_key-c.result) (at c.loop-m.need c.least_key-c.result) c.loop-m.m c.least_key-c.result (length c.loop-m.need) (length c.loop-m.order) = let g = so_far (goal.at.offset_bounds-widths-c c).At-loop-m in
     let k = growing_below c.args.n (lend c.args.widths.now c.args.guards.now) c.args.order.now (replicate 128 0) c.requires.0 c.requires.1 refl c.loop-m.order c.loop-m.need c.loop-m.m g c.loop-m-test.true c.least_key-c.result c.least_key-c.ensures in
     record {
       known = k;
@@ -49,8 +52,7 @@ offset_bounds-widths-c c =
 
 pub bounds-widths-c : goal.bounds-widths-c
 bounds-widths-c c =
-    let so_far : Growing c.args.n (lend c.args.widths.now c.args.guards.now) c.args.order.now (replicate 128 0) c.loop-m.order c.loop-m.need c.loop-m.m = c.loop-m.invariant.1 (replicate 128 0) refl in
-    let turn : Turn c.args.n (at c.args.widths.now c.least_key-c.result) (at c.loop-m.need c.least_key-c.result) c.loop-m.m c.least_key-c.result (length c.loop-m.need) (length c.loop-m.order) = let g = so_far in
+    let turn : Turn c.args.n (at c.args.widths.now c.least_key-c.result) (at c.loop-m.need c.least_key-c.result) c.loop-m.m c.least_key-c.result (length c.loop-m.need) (length c.loop-m.order) = let g = so_far (goal.at.bounds-widths-c c).At-loop-m in
     let k = growing_below c.args.n (lend c.args.widths.now c.args.guards.now) c.args.order.now (replicate 128 0) c.requires.0 c.requires.1 refl c.loop-m.order c.loop-m.need c.loop-m.m g c.loop-m-test.true c.least_key-c.result c.least_key-c.ensures in
     record {
       known = k;
@@ -69,8 +71,7 @@ slice_bounds-place-end c = search rules
 
 pub place-requires : goal.place-requires
 place-requires c =
-    let so_far : Growing c.args.n (lend c.args.widths.now c.args.guards.now) c.args.order.now (replicate 128 0) c.loop-m.order c.loop-m.need c.loop-m.m = c.loop-m.invariant.1 (replicate 128 0) refl in
-    let turn : Turn c.args.n (at c.args.widths.now c.least_key-c.result) (at c.loop-m.need c.least_key-c.result) c.loop-m.m c.least_key-c.result (length c.loop-m.need) (length c.loop-m.order) = let g = so_far in
+    let turn : Turn c.args.n (at c.args.widths.now c.least_key-c.result) (at c.loop-m.need c.least_key-c.result) c.loop-m.m c.least_key-c.result (length c.loop-m.need) (length c.loop-m.order) = let g = so_far (goal.at.place-requires c).At-loop-m in
     let k = growing_below c.args.n (lend c.args.widths.now c.args.guards.now) c.args.order.now (replicate 128 0) c.requires.0 c.requires.1 refl c.loop-m.order c.loop-m.need c.loop-m.m g c.loop-m-test.true c.least_key-c.result c.least_key-c.ensures in
     record {
       known = k;
@@ -86,8 +87,7 @@ place-requires c =
 
 pub overflow_cast-order : goal.overflow_cast-order
 overflow_cast-order c =
-    let so_far : Growing c.args.n (lend c.args.widths.now c.args.guards.now) c.args.order.now (replicate 128 0) c.loop-m.order c.loop-m.need c.loop-m.m = c.loop-m.invariant.1 (replicate 128 0) refl in
-    let turn : Turn c.args.n (at c.args.widths.now c.least_key-c.result) (at c.loop-m.need c.least_key-c.result) c.loop-m.m c.least_key-c.result (length c.loop-m.need) (length c.loop-m.order) = let g = so_far in
+    let turn : Turn c.args.n (at c.args.widths.now c.least_key-c.result) (at c.loop-m.need c.least_key-c.result) c.loop-m.m c.least_key-c.result (length c.loop-m.need) (length c.loop-m.order) = let g = so_far (goal.at.overflow_cast-order c).At-loop-m in
     let k = growing_below c.args.n (lend c.args.widths.now c.args.guards.now) c.args.order.now (replicate 128 0) c.requires.0 c.requires.1 refl c.loop-m.order c.loop-m.need c.loop-m.m g c.loop-m-test.true c.least_key-c.result c.least_key-c.ensures in
     record {
       known = k;
@@ -103,8 +103,7 @@ overflow_cast-order c =
 
 pub bounds-order-m : goal.bounds-order-m
 bounds-order-m c =
-    let so_far : Growing c.args.n (lend c.args.widths.now c.args.guards.now) c.args.order.now (replicate 128 0) c.loop-m.order c.loop-m.need c.loop-m.m = c.loop-m.invariant.1 (replicate 128 0) refl in
-    let turn : Turn c.args.n (at c.args.widths.now c.least_key-c.result) (at c.loop-m.need c.least_key-c.result) c.loop-m.m c.least_key-c.result (length c.loop-m.need) (length c.loop-m.order) = let g = so_far in
+    let turn : Turn c.args.n (at c.args.widths.now c.least_key-c.result) (at c.loop-m.need c.least_key-c.result) c.loop-m.m c.least_key-c.result (length c.loop-m.need) (length c.loop-m.order) = let g = so_far (goal.at.bounds-order-m c).At-loop-m in
     let k = growing_below c.args.n (lend c.args.widths.now c.args.guards.now) c.args.order.now (replicate 128 0) c.requires.0 c.requires.1 refl c.loop-m.order c.loop-m.need c.loop-m.m g c.loop-m-test.true c.least_key-c.result c.least_key-c.ensures in
     record {
       known = k;
@@ -120,8 +119,7 @@ bounds-order-m c =
 
 pub offset_bounds-need-c : goal.offset_bounds-need-c
 offset_bounds-need-c c =
-    let so_far : Growing c.args.n (lend c.args.widths.now c.args.guards.now) c.args.order.now (replicate 128 0) c.loop-m.order c.loop-m.need c.loop-m.m = c.loop-m.invariant.1 (replicate 128 0) refl in
-    let turn : Turn c.args.n (at c.args.widths.now c.least_key-c.result) (at c.loop-m.need c.least_key-c.result) c.loop-m.m c.least_key-c.result (length c.loop-m.need) (length c.loop-m.order) = let g = so_far in
+    let turn : Turn c.args.n (at c.args.widths.now c.least_key-c.result) (at c.loop-m.need c.least_key-c.result) c.loop-m.m c.least_key-c.result (length c.loop-m.need) (length c.loop-m.order) = let g = so_far (goal.at.offset_bounds-need-c c).At-loop-m in
     let k = growing_below c.args.n (lend c.args.widths.now c.args.guards.now) c.args.order.now (replicate 128 0) c.requires.0 c.requires.1 refl c.loop-m.order c.loop-m.need c.loop-m.m g c.loop-m-test.true c.least_key-c.result c.least_key-c.ensures in
     record {
       known = k;
@@ -137,8 +135,7 @@ offset_bounds-need-c c =
 
 pub bounds-need-c : goal.bounds-need-c
 bounds-need-c c =
-    let so_far : Growing c.args.n (lend c.args.widths.now c.args.guards.now) c.args.order.now (replicate 128 0) c.loop-m.order c.loop-m.need c.loop-m.m = c.loop-m.invariant.1 (replicate 128 0) refl in
-    let turn : Turn c.args.n (at c.args.widths.now c.least_key-c.result) (at c.loop-m.need c.least_key-c.result) c.loop-m.m c.least_key-c.result (length c.loop-m.need) (length c.loop-m.order) = let g = so_far in
+    let turn : Turn c.args.n (at c.args.widths.now c.least_key-c.result) (at c.loop-m.need c.least_key-c.result) c.loop-m.m c.least_key-c.result (length c.loop-m.need) (length c.loop-m.order) = let g = so_far (goal.at.bounds-need-c c).At-loop-m in
     let k = growing_below c.args.n (lend c.args.widths.now c.args.guards.now) c.args.order.now (replicate 128 0) c.requires.0 c.requires.1 refl c.loop-m.order c.loop-m.need c.loop-m.m g c.loop-m-test.true c.least_key-c.result c.least_key-c.ensures in
     record {
       known = k;
@@ -154,8 +151,7 @@ bounds-need-c c =
 
 pub overflow_add-m : goal.overflow_add-m
 overflow_add-m c =
-    let so_far : Growing c.args.n (lend c.args.widths.now c.args.guards.now) c.args.order.now (replicate 128 0) c.loop-m.order c.loop-m.need c.loop-m.m = c.loop-m.invariant.1 (replicate 128 0) refl in
-    let turn : Turn c.args.n (at c.args.widths.now c.least_key-c.result) (at c.loop-m.need c.least_key-c.result) c.loop-m.m c.least_key-c.result (length c.loop-m.need) (length c.loop-m.order) = let g = so_far in
+    let turn : Turn c.args.n (at c.args.widths.now c.least_key-c.result) (at c.loop-m.need c.least_key-c.result) c.loop-m.m c.least_key-c.result (length c.loop-m.need) (length c.loop-m.order) = let g = so_far (goal.at.overflow_add-m c).At-loop-m in
     let k = growing_below c.args.n (lend c.args.widths.now c.args.guards.now) c.args.order.now (replicate 128 0) c.requires.0 c.requires.1 refl c.loop-m.order c.loop-m.need c.loop-m.m g c.loop-m-test.true c.least_key-c.result c.least_key-c.ensures in
     record {
       known = k;
@@ -171,8 +167,7 @@ overflow_add-m c =
 
 pub loop-m-smaller : goal.loop-m-smaller
 loop-m-smaller c =
-    let so_far : Growing c.args.n (lend c.args.widths.now c.args.guards.now) c.args.order.now (replicate 128 0) c.loop-m.order c.loop-m.need c.loop-m.m = c.loop-m.invariant.1 (replicate 128 0) refl in
-    let turn : Turn c.args.n (at c.args.widths.now c.least_key-c.result) (at c.loop-m.need c.least_key-c.result) c.loop-m.m c.least_key-c.result (length c.loop-m.need) (length c.loop-m.order) = let g = so_far in
+    let turn : Turn c.args.n (at c.args.widths.now c.least_key-c.result) (at c.loop-m.need c.least_key-c.result) c.loop-m.m c.least_key-c.result (length c.loop-m.need) (length c.loop-m.order) = let g = so_far (goal.at.loop-m-smaller c).At-loop-m in
     let k = growing_below c.args.n (lend c.args.widths.now c.args.guards.now) c.args.order.now (replicate 128 0) c.requires.0 c.requires.1 refl c.loop-m.order c.loop-m.need c.loop-m.m g c.loop-m-test.true c.least_key-c.result c.least_key-c.ensures in
     record {
       known = k;
@@ -188,8 +183,7 @@ loop-m-smaller c =
 
 pub loop-m-preserved : goal.loop-m-preserved
 loop-m-preserved c =
-    let so_far : Growing c.args.n (lend c.args.widths.now c.args.guards.now) c.args.order.now (replicate 128 0) c.loop-m.order c.loop-m.need c.loop-m.m = c.loop-m.invariant.1 (replicate 128 0) refl in
-    let turn : Turn c.args.n (at c.args.widths.now c.least_key-c.result) (at c.loop-m.need c.least_key-c.result) c.loop-m.m c.least_key-c.result (length c.loop-m.need) (length c.loop-m.order) = let g = so_far in
+    let turn : Turn c.args.n (at c.args.widths.now c.least_key-c.result) (at c.loop-m.need c.least_key-c.result) c.loop-m.m c.least_key-c.result (length c.loop-m.need) (length c.loop-m.order) = let g = so_far (goal.at.loop-m-preserved c).At-loop-m in
     let k = growing_below c.args.n (lend c.args.widths.now c.args.guards.now) c.args.order.now (replicate 128 0) c.requires.0 c.requires.1 refl c.loop-m.order c.loop-m.need c.loop-m.m g c.loop-m-test.true c.least_key-c.result c.least_key-c.ensures in
     record {
       known = k;
@@ -207,8 +201,7 @@ loop-m-preserved c =
 
 pub shape_of-order : goal.shape_of-order
 shape_of-order c =
-    let so_far : Growing c.args.n (lend c.args.widths.now c.args.guards.now) c.args.order.now (replicate 128 0) c.loop-m.order c.loop-m.need c.loop-m.m = c.loop-m.invariant.1 (replicate 128 0) refl in
-    (so_far).long
+    (so_far (goal.at.shape_of-order c).At-loop-m).long
 
 pub returns : goal.returns
 returns c = λ table l.

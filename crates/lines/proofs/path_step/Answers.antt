@@ -10,6 +10,13 @@ use Rattle.table_laws.specs.Limits.{outside_not}
 use Rattle.sheet_laws.specs.Lines.{path_ill, path_twice, path_fine}
 use Rattle.lines.proofs.Ranges.{path_out}
 use Rattle.lines.proofs.path_step.Goals as goal
+use Rattle.lines.proofs.path_step.Goals.{Else-bad_width, In-Fields}
+
+at_e : (c : In-Fields) → PathLineIs c.args.text.now c.args.place (Fields c.in-Fields.e c.in-Fields.width c.in-Fields.next)
+at_e c = rw c.in-Fields.is at c.path_line.ensures
+
+within : (c : Else-bad_width) → (1 ≤ c.in-Fields.width) × (c.in-Fields.width ≤ 64)
+within c = outside_not 1 64 c.in-Fields.width (sym c.out_of_range-bad_width.ensures ∙ c.if-bad_width.false)
 
 pub returns-in_default : goal.returns-in_default
 returns-in_default c =
@@ -18,35 +25,28 @@ returns-in_default c =
 
 pub find-i-requires : goal.find-i-requires
 find-i-requires c =
-    let at_e : PathLineIs c.args.text.now c.args.place (Fields c.in-Fields.e c.in-Fields.width c.in-Fields.next) = rw c.in-Fields.is at c.path_line.ensures in
-    omega (arith, at_e, c.requires)
+    omega (arith, at_e (goal.at.find-i-requires c).In-Fields, c.requires)
 
 pub returns-then-i-k : goal.returns-then-i-k
 returns-then-i-k c =
-    let at_e : PathLineIs c.args.text.now c.args.place (Fields c.in-Fields.e c.in-Fields.width c.in-Fields.next) = rw c.in-Fields.is at c.path_line.ensures in
-    (tt, path_twice c.args.k c.args.labels.now c.args.widths.now (drop c.args.place c.args.text.now) (part c.args.text.now c.args.place c.in-Fields.e) c.in-Fields.width (drop c.in-Fields.next c.args.text.now) (at_e).0 c.find-i.result c.find-i.ensures c.if-i-k.true)
+    (tt, path_twice c.args.k c.args.labels.now c.args.widths.now (drop c.args.place c.args.text.now) (part c.args.text.now c.args.place c.in-Fields.e) c.in-Fields.width (drop c.in-Fields.next c.args.text.now) (at_e (goal.at.returns-then-i-k c).In-Fields).0 c.find-i.result c.find-i.ensures c.if-i-k.true)
 
 pub returns-then-bad_width : goal.returns-then-bad_width
 returns-then-bad_width c =
-    let at_e : PathLineIs c.args.text.now c.args.place (Fields c.in-Fields.e c.in-Fields.width c.in-Fields.next) = rw c.in-Fields.is at c.path_line.ensures in
-    (tt, path_out c.args.k c.args.labels.now c.args.widths.now (drop c.args.place c.args.text.now) (part c.args.text.now c.args.place c.in-Fields.e) c.in-Fields.width (drop c.in-Fields.next c.args.text.now) (at_e).0 c.find-i.result c.find-i.ensures c.if-i-k.false (sym c.out_of_range-bad_width.ensures ∙ c.if-bad_width.true))
+    (tt, path_out c.args.k c.args.labels.now c.args.widths.now (drop c.args.place c.args.text.now) (part c.args.text.now c.args.place c.in-Fields.e) c.in-Fields.width (drop c.in-Fields.next c.args.text.now) (at_e (goal.at.returns-then-bad_width c).In-Fields).0 c.find-i.result c.find-i.ensures c.if-i-k.false (sym c.out_of_range-bad_width.ensures ∙ c.if-bad_width.true))
 
 pub put_row-requires : goal.put_row-requires
 put_row-requires c =
-    let at_e : PathLineIs c.args.text.now c.args.place (Fields c.in-Fields.e c.in-Fields.width c.in-Fields.next) = rw c.in-Fields.is at c.path_line.ensures in
-    omega (arith, at_e, c.requires)
+    omega (arith, at_e (goal.at.put_row-requires c).In-Fields, c.requires)
 
 pub overflow_cast-widths : goal.overflow_cast-widths
 overflow_cast-widths c =
-    let within : (1 ≤ c.in-Fields.width) × (c.in-Fields.width ≤ 64) = outside_not 1 64 c.in-Fields.width (sym c.out_of_range-bad_width.ensures ∙ c.if-bad_width.false) in
-    omega (arith, within)
+    omega (arith, within (goal.at.overflow_cast-widths c).Else-bad_width)
 
 pub returns : goal.returns
 returns c =
-    let within : (1 ≤ c.in-Fields.width) × (c.in-Fields.width ≤ 64) = outside_not 1 64 c.in-Fields.width (sym c.out_of_range-bad_width.ensures ∙ c.if-bad_width.false) in
-    let at_e : PathLineIs c.args.text.now c.args.place (Fields c.in-Fields.e c.in-Fields.width c.in-Fields.next) = rw c.in-Fields.is at c.path_line.ensures in
-    let w = within in (
-      (at_e).3,
-      path_fine c.args.k c.args.labels.now c.args.widths.now (drop c.args.place c.args.text.now) (part c.args.text.now c.args.place c.in-Fields.e) c.in-Fields.width (drop c.in-Fields.next c.args.text.now) (at_e).0 c.find-i.result c.find-i.ensures c.if-i-k.false w.0 w.1
+    let w = within (goal.at.returns c).Else-bad_width in (
+      (at_e (goal.at.returns c).In-Fields).3,
+      path_fine c.args.k c.args.labels.now c.args.widths.now (drop c.args.place c.args.text.now) (part c.args.text.now c.args.place c.in-Fields.e) c.in-Fields.width (drop c.in-Fields.next c.args.text.now) (at_e (goal.at.returns c).In-Fields).0 c.find-i.result c.find-i.ensures c.if-i-k.false w.0 w.1
           ∙ ap (λ (x : List ℕ). right (x, set c.args.widths.now c.args.k c.in-Fields.width) (drop c.in-Fields.next c.args.text.now)) (sym c.put_row.ensures),
     )

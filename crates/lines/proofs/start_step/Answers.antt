@@ -8,6 +8,13 @@ use Rattle.table_laws.specs.Limits.{outside_not}
 use Rattle.sheet_laws.specs.Lines.{start_ill, start_other, start_fine}
 use Rattle.lines.proofs.Ranges.{start_out}
 use Rattle.lines.proofs.start_step.Goals as goal
+use Rattle.lines.proofs.start_step.Goals.{Else-bad_start, In-Fields}
+
+at_e : (c : In-Fields) → PathLineIs c.args.text.now c.args.place (Fields c.in-Fields.e c.in-Fields.start c.in-Fields.next)
+at_e c = rw c.in-Fields.is at c.path_line.ensures
+
+within : (c : Else-bad_start) → (1 ≤ c.in-Fields.start) × (c.in-Fields.start ≤ 16384)
+within c = outside_not 1 16384 c.in-Fields.start (sym c.out_of_range-bad_start.ensures ∙ c.if-bad_start.false)
 
 pub returns-in_default : goal.returns-in_default
 returns-in_default c =
@@ -16,27 +23,21 @@ returns-in_default c =
 
 pub is_row-requires : goal.is_row-requires
 is_row-requires c =
-    let at_e : PathLineIs c.args.text.now c.args.place (Fields c.in-Fields.e c.in-Fields.start c.in-Fields.next) = rw c.in-Fields.is at c.path_line.ensures in
-    omega (arith, at_e)
+    omega (arith, at_e (goal.at.is_row-requires c).In-Fields)
 
 pub returns-then-not-is_row : goal.returns-then-not-is_row
 returns-then-not-is_row c =
-    let at_e : PathLineIs c.args.text.now c.args.place (Fields c.in-Fields.e c.in-Fields.start c.in-Fields.next) = rw c.in-Fields.is at c.path_line.ensures in
-    (tt, start_other c.args.labels.now c.args.k c.args.starts.now (drop c.args.place c.args.text.now) (part c.args.text.now c.args.place c.in-Fields.e) c.in-Fields.start (drop c.in-Fields.next c.args.text.now) (at_e).0 (sym c.is_row.ensures ∙ c.if-not-is_row.true))
+    (tt, start_other c.args.labels.now c.args.k c.args.starts.now (drop c.args.place c.args.text.now) (part c.args.text.now c.args.place c.in-Fields.e) c.in-Fields.start (drop c.in-Fields.next c.args.text.now) (at_e (goal.at.returns-then-not-is_row c).In-Fields).0 (sym c.is_row.ensures ∙ c.if-not-is_row.true))
 
 pub returns-then-bad_start : goal.returns-then-bad_start
 returns-then-bad_start c =
-    let at_e : PathLineIs c.args.text.now c.args.place (Fields c.in-Fields.e c.in-Fields.start c.in-Fields.next) = rw c.in-Fields.is at c.path_line.ensures in
-    (tt, start_out c.args.labels.now c.args.k c.args.starts.now (drop c.args.place c.args.text.now) (part c.args.text.now c.args.place c.in-Fields.e) c.in-Fields.start (drop c.in-Fields.next c.args.text.now) (at_e).0 (sym c.is_row.ensures ∙ c.if-not-is_row.false) (sym c.out_of_range-bad_start.ensures ∙ c.if-bad_start.true))
+    (tt, start_out c.args.labels.now c.args.k c.args.starts.now (drop c.args.place c.args.text.now) (part c.args.text.now c.args.place c.in-Fields.e) c.in-Fields.start (drop c.in-Fields.next c.args.text.now) (at_e (goal.at.returns-then-bad_start c).In-Fields).0 (sym c.is_row.ensures ∙ c.if-not-is_row.false) (sym c.out_of_range-bad_start.ensures ∙ c.if-bad_start.true))
 
 pub overflow_cast-starts : goal.overflow_cast-starts
 overflow_cast-starts c =
-    let within : (1 ≤ c.in-Fields.start) × (c.in-Fields.start ≤ 16384) = outside_not 1 16384 c.in-Fields.start (sym c.out_of_range-bad_start.ensures ∙ c.if-bad_start.false) in
-    omega (arith, within)
+    omega (arith, within (goal.at.overflow_cast-starts c).Else-bad_start)
 
 pub returns : goal.returns
 returns c =
-    let within : (1 ≤ c.in-Fields.start) × (c.in-Fields.start ≤ 16384) = outside_not 1 16384 c.in-Fields.start (sym c.out_of_range-bad_start.ensures ∙ c.if-bad_start.false) in
-    let at_e : PathLineIs c.args.text.now c.args.place (Fields c.in-Fields.e c.in-Fields.start c.in-Fields.next) = rw c.in-Fields.is at c.path_line.ensures in
-    let w = within in
-    ((at_e).3, start_fine c.args.labels.now c.args.k c.args.starts.now (drop c.args.place c.args.text.now) (part c.args.text.now c.args.place c.in-Fields.e) c.in-Fields.start (drop c.in-Fields.next c.args.text.now) (at_e).0 (sym c.is_row.ensures ∙ c.if-not-is_row.false) w.0 w.1)
+    let w = within (goal.at.returns c).Else-bad_start in
+    ((at_e (goal.at.returns c).In-Fields).3, start_fine c.args.labels.now c.args.k c.args.starts.now (drop c.args.place c.args.text.now) (part c.args.text.now c.args.place c.in-Fields.e) c.in-Fields.start (drop c.in-Fields.next c.args.text.now) (at_e (goal.at.returns c).In-Fields).0 (sym c.is_row.ensures ∙ c.if-not-is_row.false) w.0 w.1)

@@ -10,6 +10,10 @@ use Rattle.sections.specs.declared.Part.TheVariants.{Over, Halt}
 use Rattle.sheet_laws.specs.Lines.{part_ill, part_count, part_halt, part_left, part_done}
 use Rattle.sheet_laws.specs.Grid.{lowered}
 use Rattle.order_reader.proofs.order_part.Goals as goal
+use Rattle.order_reader.proofs.order_part.Goals.{In-Is}
+
+at_m : (c : In-Is) → CountIs c.args.text.now 0 order_word (Is c.in-Is.m c.in-Is.e)
+at_m c = rw c.in-Is.is at c.count_line.ensures
 
 pub returns-in_default : goal.returns-in_default
 unfolding order_from
@@ -20,31 +24,26 @@ returns-in_default c =
 pub returns-then-m-n : goal.returns-then-m-n
 unfolding order_from
 returns-then-m-n c =
-    let at_m : CountIs c.args.text.now 0 order_word (Is c.in-Is.m c.in-Is.e) = rw c.in-Is.is at c.count_line.ensures in
-    part_count order_word (order_step (lowered c.args.anchor) c.args.labels.now c.args.widths.now) c.args.n 1 c.args.starts.now c.args.text.now 0 c.in-Is.m (drop c.in-Is.e c.args.text.now) (at_m).0 c.if-m-n.true
+    part_count order_word (order_step (lowered c.args.anchor) c.args.labels.now c.args.widths.now) c.args.n 1 c.args.starts.now c.args.text.now 0 c.in-Is.m (drop c.in-Is.e c.args.text.now) (at_m (goal.at.returns-then-m-n c).In-Is).0 c.if-m-n.true
 
 pub order_lines-requires : goal.order_lines-requires
 order_lines-requires c =
-    let at_m : CountIs c.args.text.now 0 order_word (Is c.in-Is.m c.in-Is.e) = rw c.in-Is.is at c.count_line.ensures in
-    omega (arith, at_m, c.requires)
+    omega (arith, at_m (goal.at.order_lines-requires c).In-Is, c.requires)
 
 pub returns-then-f-text : goal.returns-then-f-text
 unfolding order_from
 returns-then-f-text c =
-    let at_m : CountIs c.args.text.now 0 order_word (Is c.in-Is.m c.in-Is.e) = rw c.in-Is.is at c.count_line.ensures in
     let z : SectionIs c.args.text.now c.order_lines.new.starts (lines (order_step (lowered c.args.anchor) c.args.labels.now c.args.widths.now) 2 c.args.n 0 c.args.starts.now (drop c.in-Is.e c.args.text.now)) (Over c.in-Over.f) = (rw c.in-Over.is at c.order_lines.ensures).1 in
-    part_left order_word (order_step (lowered c.args.anchor) c.args.labels.now c.args.widths.now) c.args.n 1 c.args.starts.now c.args.text.now 0 c.in-Is.m (drop c.in-Is.e c.args.text.now) (at_m).0 c.if-m-n.false c.order_lines.new.starts c.in-Over.f z c.if-f-text.true
+    part_left order_word (order_step (lowered c.args.anchor) c.args.labels.now c.args.widths.now) c.args.n 1 c.args.starts.now c.args.text.now 0 c.in-Is.m (drop c.in-Is.e c.args.text.now) (at_m (goal.at.returns-then-f-text c).In-Is).0 c.if-m-n.false c.order_lines.new.starts c.in-Over.f z c.if-f-text.true
 
 pub returns-in-Halt : goal.returns-in-Halt
 unfolding order_from
 returns-in-Halt c =
-    let at_m : CountIs c.args.text.now 0 order_word (Is c.in-Is.m c.in-Is.e) = rw c.in-Is.is at c.count_line.ensures in
     let z : SectionIs c.args.text.now c.order_lines.new.starts (lines (order_step (lowered c.args.anchor) c.args.labels.now c.args.widths.now) 2 c.args.n 0 c.args.starts.now (drop c.in-Is.e c.args.text.now)) (Halt c.in-Halt.x c.in-Halt.y) = (rw c.in-Halt.is at c.order_lines.ensures).1 in
-    part_halt order_word (order_step (lowered c.args.anchor) c.args.labels.now c.args.widths.now) c.args.n 1 c.args.starts.now c.args.text.now 0 c.in-Is.m (drop c.in-Is.e c.args.text.now) (at_m).0 c.if-m-n.false c.in-Halt.x c.in-Halt.y z
+    part_halt order_word (order_step (lowered c.args.anchor) c.args.labels.now c.args.widths.now) c.args.n 1 c.args.starts.now c.args.text.now 0 c.in-Is.m (drop c.in-Is.e c.args.text.now) (at_m (goal.at.returns-in-Halt c).In-Is).0 c.if-m-n.false c.in-Halt.x c.in-Halt.y z
 
 pub returns-else-f-text : goal.returns-else-f-text
 unfolding order_from
 returns-else-f-text c =
-    let at_m : CountIs c.args.text.now 0 order_word (Is c.in-Is.m c.in-Is.e) = rw c.in-Is.is at c.count_line.ensures in
     let z : SectionIs c.args.text.now c.order_lines.new.starts (lines (order_step (lowered c.args.anchor) c.args.labels.now c.args.widths.now) 2 c.args.n 0 c.args.starts.now (drop c.in-Is.e c.args.text.now)) (Over c.in-Over.f) = (rw c.in-Over.is at c.order_lines.ensures).1 in
-    part_done order_word (order_step (lowered c.args.anchor) c.args.labels.now c.args.widths.now) c.args.n 1 c.args.starts.now c.args.text.now 0 c.in-Is.m (drop c.in-Is.e c.args.text.now) (at_m).0 c.if-m-n.false c.order_lines.new.starts c.in-Over.f z c.if-f-text.false
+    part_done order_word (order_step (lowered c.args.anchor) c.args.labels.now c.args.widths.now) c.args.n 1 c.args.starts.now c.args.text.now 0 c.in-Is.m (drop c.in-Is.e c.args.text.now) (at_m (goal.at.returns-else-f-text c).In-Is).0 c.if-m-n.false c.order_lines.new.starts c.in-Over.f z c.if-f-text.false

@@ -8,6 +8,10 @@ use Rattle.sheet_laws.specs.Outcomes.{written_refused, written_short, written_do
 use Rattle.sheet_tables.specs.Tests.{table_fault}
 use Rattle.sheet.proofs.Written.{writing_is, table_clear}
 use Rattle.sheet.proofs.write.Goals as goal
+use Rattle.sheet.proofs.write.Goals.{Else-fault-ne0}
+
+fit : (c : Else-fault-ne0) → (c.args.n ≤ 128) × Sized c.args.labels.now c.args.widths.now c.args.guards.now c.args.starts.now
+fit c = table_clear c.args.n c.args.labels.now c.args.widths.now c.args.guards.now c.args.starts.now c.table_fault-fault.result c.table_fault-fault.ensures c.if-fault-ne0.false
 
 pub returns-then-fault-ne0 : goal.returns-then-fault-ne0
 returns-then-fault-ne0 c =
@@ -16,8 +20,7 @@ returns-then-fault-ne0 c =
 
 pub sheet_length-length-requires : goal.sheet_length-length-requires
 sheet_length-length-requires c =
-    let fit : (c.args.n ≤ 128) × Sized c.args.labels.now c.args.widths.now c.args.guards.now c.args.starts.now = table_clear c.args.n c.args.labels.now c.args.widths.now c.args.guards.now c.args.starts.now c.table_fault-fault.result c.table_fault-fault.ensures c.if-fault-ne0.false in
-    fit
+    fit (goal.at.sheet_length-length-requires c).Else-fault-ne0
 
 pub returns-then-text-length : goal.returns-then-text-length
 returns-then-text-length c =
@@ -26,8 +29,7 @@ returns-then-text-length c =
 
 pub put_sheet-requires : goal.put_sheet-requires
 put_sheet-requires c =
-    let fit : (c.args.n ≤ 128) × Sized c.args.labels.now c.args.widths.now c.args.guards.now c.args.starts.now = table_clear c.args.n c.args.labels.now c.args.widths.now c.args.guards.now c.args.starts.now c.table_fault-fault.result c.table_fault-fault.ensures c.if-fault-ne0.false in
-    let h = fit in (h.0, h.1, omega (arith, c.sheet_length-length.ensures, c.if-text-length.false))
+    let h = fit (goal.at.put_sheet-requires c).Else-fault-ne0 in (h.0, h.1, omega (arith, c.sheet_length-length.ensures, c.if-text-length.false))
 
 pub returns : goal.returns
 returns c =

@@ -12,17 +12,19 @@ use Rattle.sheet_laws.specs.Sizes.{labels_clear}
 use Rattle.sheet_tables.specs.Tests.{table_fault}
 use Rattle.sheet_tables.proofs.Plans.{pairs_many, pairs_few}
 use Rattle.sheet_tables.proofs.table_fault.Goals as goal
+use Rattle.sheet_tables.proofs.table_fault.Goals.{After-lent_fault-lent}
+
+lent : (c : After-lent_fault-lent) → c.lent_fault-lent.result ≡ lent_fault c.args.n (lend c.args.widths.now c.args.guards.now) (label_sizes c.args.labels.now c.args.starts.now)
+lent c = c.lent_fault-lent.ensures ∙ ap (lent_fault c.args.n (lend c.args.widths.now c.args.guards.now)) c.label_sizes-sizes.ensures
 
 pub returns-then-lent-ne0 : goal.returns-then-lent-ne0
 unfolding table_fault
 returns-then-lent-ne0 c =
-    let lent : c.lent_fault-lent.result ≡ lent_fault c.args.n (lend c.args.widths.now c.args.guards.now) (label_sizes c.args.labels.now c.args.starts.now) = c.lent_fault-lent.ensures ∙ ap (lent_fault c.args.n (lend c.args.widths.now c.args.guards.now)) c.label_sizes-sizes.ensures in
-    or_stop _ (lent) c.if-lent-ne0.true
+    or_stop _ (lent (goal.at.returns-then-lent-ne0 c).After-lent_fault-lent) c.if-lent-ne0.true
 
 pub label_fault-label-requires : goal.label_fault-label-requires
 label_fault-label-requires c =
-    let lent : c.lent_fault-lent.result ≡ lent_fault c.args.n (lend c.args.widths.now c.args.guards.now) (label_sizes c.args.labels.now c.args.starts.now) = c.lent_fault-lent.ensures ∙ ap (lent_fault c.args.n (lend c.args.widths.now c.args.guards.now)) c.label_sizes-sizes.ensures in
-    let fit : (c.args.n ≤ 128) × (length c.args.labels.now ≡ 1024) × (length c.args.guards.now ≡ 16384) × (length c.args.starts.now ≡ 128) = let w = lent_clear c.args.n (lend c.args.widths.now c.args.guards.now) (label_sizes c.args.labels.now c.args.starts.now) (number_of (lent) c.if-lent-ne0.false) in
+    let fit : (c.args.n ≤ 128) × (length c.args.labels.now ≡ 1024) × (length c.args.guards.now ≡ 16384) × (length c.args.starts.now ≡ 128) = let w = lent_clear c.args.n (lend c.args.widths.now c.args.guards.now) (label_sizes c.args.labels.now c.args.starts.now) (number_of (lent (goal.at.label_fault-label-requires c).After-lent_fault-lent) c.if-lent-ne0.false) in
     let l = labels_clear c.args.labels.now c.args.starts.now w.1 in
     (w.0.few, l.0, w.0.guards_size, l.1) in
     omega (arith, fit)
@@ -30,13 +32,11 @@ label_fault-label-requires c =
 pub returns-then-label-ne0 : goal.returns-then-label-ne0
 unfolding table_fault
 returns-then-label-ne0 c =
-    let lent : c.lent_fault-lent.result ≡ lent_fault c.args.n (lend c.args.widths.now c.args.guards.now) (label_sizes c.args.labels.now c.args.starts.now) = c.lent_fault-lent.ensures ∙ ap (lent_fault c.args.n (lend c.args.widths.now c.args.guards.now)) c.label_sizes-sizes.ensures in
-    or_on _ (lent) c.if-lent-ne0.false (or_stop _ c.label_fault-label.ensures c.if-label-ne0.true)
+    or_on _ (lent (goal.at.returns-then-label-ne0 c).After-lent_fault-lent) c.if-lent-ne0.false (or_stop _ c.label_fault-label.ensures c.if-label-ne0.true)
 
 pub twice_fault-twice-requires : goal.twice_fault-twice-requires
 twice_fault-twice-requires c =
-    let lent : c.lent_fault-lent.result ≡ lent_fault c.args.n (lend c.args.widths.now c.args.guards.now) (label_sizes c.args.labels.now c.args.starts.now) = c.lent_fault-lent.ensures ∙ ap (lent_fault c.args.n (lend c.args.widths.now c.args.guards.now)) c.label_sizes-sizes.ensures in
-    let fit : (c.args.n ≤ 128) × (length c.args.labels.now ≡ 1024) × (length c.args.guards.now ≡ 16384) × (length c.args.starts.now ≡ 128) = let w = lent_clear c.args.n (lend c.args.widths.now c.args.guards.now) (label_sizes c.args.labels.now c.args.starts.now) (number_of (lent) c.if-lent-ne0.false) in
+    let fit : (c.args.n ≤ 128) × (length c.args.labels.now ≡ 1024) × (length c.args.guards.now ≡ 16384) × (length c.args.starts.now ≡ 128) = let w = lent_clear c.args.n (lend c.args.widths.now c.args.guards.now) (label_sizes c.args.labels.now c.args.starts.now) (number_of (lent (goal.at.twice_fault-twice-requires c).After-lent_fault-lent) c.if-lent-ne0.false) in
     let l = labels_clear c.args.labels.now c.args.starts.now w.1 in
     (w.0.few, l.0, w.0.guards_size, l.1) in
     let h = fit in
@@ -45,15 +45,13 @@ twice_fault-twice-requires c =
 pub returns-then-twice-ne0 : goal.returns-then-twice-ne0
 unfolding table_fault
 returns-then-twice-ne0 c =
-    let lent : c.lent_fault-lent.result ≡ lent_fault c.args.n (lend c.args.widths.now c.args.guards.now) (label_sizes c.args.labels.now c.args.starts.now) = c.lent_fault-lent.ensures ∙ ap (lent_fault c.args.n (lend c.args.widths.now c.args.guards.now)) c.label_sizes-sizes.ensures in
-    or_on _ (lent) c.if-lent-ne0.false
+    or_on _ (lent (goal.at.returns-then-twice-ne0 c).After-lent_fault-lent) c.if-lent-ne0.false
     (or_on _ c.label_fault-label.ensures c.if-label-ne0.false
     (or_stop _ c.twice_fault-twice.ensures c.if-twice-ne0.true))
 
 pub pair_count-requires : goal.pair_count-requires
 pair_count-requires c =
-    let lent : c.lent_fault-lent.result ≡ lent_fault c.args.n (lend c.args.widths.now c.args.guards.now) (label_sizes c.args.labels.now c.args.starts.now) = c.lent_fault-lent.ensures ∙ ap (lent_fault c.args.n (lend c.args.widths.now c.args.guards.now)) c.label_sizes-sizes.ensures in
-    let fit : (c.args.n ≤ 128) × (length c.args.labels.now ≡ 1024) × (length c.args.guards.now ≡ 16384) × (length c.args.starts.now ≡ 128) = let w = lent_clear c.args.n (lend c.args.widths.now c.args.guards.now) (label_sizes c.args.labels.now c.args.starts.now) (number_of (lent) c.if-lent-ne0.false) in
+    let fit : (c.args.n ≤ 128) × (length c.args.labels.now ≡ 1024) × (length c.args.guards.now ≡ 16384) × (length c.args.starts.now ≡ 128) = let w = lent_clear c.args.n (lend c.args.widths.now c.args.guards.now) (label_sizes c.args.labels.now c.args.starts.now) (number_of (lent (goal.at.pair_count-requires c).After-lent_fault-lent) c.if-lent-ne0.false) in
     let l = labels_clear c.args.labels.now c.args.starts.now w.1 in
     (w.0.few, l.0, w.0.guards_size, l.1) in
     omega (arith, fit)
@@ -61,8 +59,7 @@ pair_count-requires c =
 pub returns-then-pair_count-gt-PAIRS_MOST : goal.returns-then-pair_count-gt-PAIRS_MOST
 unfolding table_fault
 returns-then-pair_count-gt-PAIRS_MOST c =
-    let lent : c.lent_fault-lent.result ≡ lent_fault c.args.n (lend c.args.widths.now c.args.guards.now) (label_sizes c.args.labels.now c.args.starts.now) = c.lent_fault-lent.ensures ∙ ap (lent_fault c.args.n (lend c.args.widths.now c.args.guards.now)) c.label_sizes-sizes.ensures in
-    or_on _ (lent) c.if-lent-ne0.false
+    or_on _ (lent (goal.at.returns-then-pair_count-gt-PAIRS_MOST c).After-lent_fault-lent) c.if-lent-ne0.false
     (or_on _ c.label_fault-label.ensures c.if-label-ne0.false
     (or_on _ c.twice_fault-twice.ensures c.if-twice-ne0.false
     (or_stop _ {f = c.refused.result} (c.refused.ensures ∙ pairs_many c.args.n c.args.guards.now c.pair_count.result c.pair_count.ensures.0 c.if-pair_count-gt-PAIRS_MOST.true)
@@ -70,8 +67,7 @@ returns-then-pair_count-gt-PAIRS_MOST c =
 
 pub plan_fault-requires : goal.plan_fault-requires
 plan_fault-requires c =
-    let lent : c.lent_fault-lent.result ≡ lent_fault c.args.n (lend c.args.widths.now c.args.guards.now) (label_sizes c.args.labels.now c.args.starts.now) = c.lent_fault-lent.ensures ∙ ap (lent_fault c.args.n (lend c.args.widths.now c.args.guards.now)) c.label_sizes-sizes.ensures in
-    let fit : (c.args.n ≤ 128) × (length c.args.labels.now ≡ 1024) × (length c.args.guards.now ≡ 16384) × (length c.args.starts.now ≡ 128) = let w = lent_clear c.args.n (lend c.args.widths.now c.args.guards.now) (label_sizes c.args.labels.now c.args.starts.now) (number_of (lent) c.if-lent-ne0.false) in
+    let fit : (c.args.n ≤ 128) × (length c.args.labels.now ≡ 1024) × (length c.args.guards.now ≡ 16384) × (length c.args.starts.now ≡ 128) = let w = lent_clear c.args.n (lend c.args.widths.now c.args.guards.now) (label_sizes c.args.labels.now c.args.starts.now) (number_of (lent (goal.at.plan_fault-requires c).After-lent_fault-lent) c.if-lent-ne0.false) in
     let l = labels_clear c.args.labels.now c.args.starts.now w.1 in
     (w.0.few, l.0, w.0.guards_size, l.1) in
     omega (arith, fit)
@@ -79,8 +75,7 @@ plan_fault-requires c =
 pub returns : goal.returns
 unfolding table_fault
 returns c =
-    let lent : c.lent_fault-lent.result ≡ lent_fault c.args.n (lend c.args.widths.now c.args.guards.now) (label_sizes c.args.labels.now c.args.starts.now) = c.lent_fault-lent.ensures ∙ ap (lent_fault c.args.n (lend c.args.widths.now c.args.guards.now)) c.label_sizes-sizes.ensures in
-    or_on _ (lent) c.if-lent-ne0.false
+    or_on _ (lent (goal.at.returns c).After-lent_fault-lent) c.if-lent-ne0.false
     (or_on _ c.label_fault-label.ensures c.if-label-ne0.false
     (or_on _ c.twice_fault-twice.ensures c.if-twice-ne0.false
     (or_on _ {f = no_fault} (pairs_few c.args.n c.args.guards.now c.pair_count.result c.pair_count.ensures.0 c.if-pair_count-gt-PAIRS_MOST.false) refl

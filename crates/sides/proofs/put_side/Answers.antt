@@ -3,15 +3,18 @@ use borrow.Author.Rules.{rules}
 use mathlib.Core.Path.{◌≡◌, sym, ◌∙◌}
 use Rattle.plan_laws.specs.Passes.{Passing, sides_of, passing_long, passing_room, passing_more}
 use Rattle.sides.proofs.put_side.Goals as goal
+use Rattle.sides.proofs.put_side.Goals.{At-loop-k}
+
+-- there is an order that these are arranged from
+so_far : (c : At-loop-k) → Passing (sides_of c.args.mark.now) c.args.n c.requires.1.1.0 c.loop-k.order c.args.side c.loop-k.k c.loop-k.p
+so_far c = c.loop-k.invariant.1 c.requires.1.1.0 c.requires.1.1.1
 
 pub loop-k-init : goal.loop-k-init
 loop-k-init c = (search rules, λ before a. a)
 
 pub put_path-p-requires : goal.put_path-p-requires
 put_path-p-requires c =
-    -- there is an order that these are arranged from
-    let so_far : Passing (sides_of c.args.mark.now) c.args.n c.requires.1.1.0 c.loop-k.order c.args.side c.loop-k.k c.loop-k.p = c.loop-k.invariant.1 c.requires.1.1.0 c.requires.1.1.1 in
-    let a = so_far in
+    let a = so_far (goal.at.put_path-p-requires c).At-loop-k in
     let key = sides_of c.args.mark.now in (
       omega (arith, c.requires.0),
       (
@@ -26,9 +29,8 @@ loop-k-preserved c =
 
 pub shape_of-order : goal.shape_of-order
 shape_of-order c =
-    let so_far : Passing (sides_of c.args.mark.now) c.args.n c.requires.1.1.0 c.loop-k.order c.args.side c.loop-k.k c.loop-k.p = c.loop-k.invariant.1 c.requires.1.1.0 c.requires.1.1.1 in
     let key = sides_of c.args.mark.now in
-    passing_long key c.args.n c.requires.1.1.0 c.loop-k.order c.args.side _ _ (so_far)
+    passing_long key c.args.n c.requires.1.1.0 c.loop-k.order c.args.side _ _ (so_far (goal.at.shape_of-order c).At-loop-k)
     ∙ sym (passing_long key c.args.n c.requires.1.1.0 c.args.order.now c.args.side _ _ c.requires.1.1.1)
 
 pub returns : goal.returns

@@ -8,6 +8,10 @@ use Rattle.rules.specs.Text.{numeral, space, line_feed}
 use Rattle.rules.specs.Writing.{label_of, guard_text}
 use Rattle.sheet_laws.specs.Writes.{pair_text, pair_length, guard_none, guard_some, pair_apart, pair_joined, both_pieces}
 use Rattle.spelling.proofs.put_guard_line.Goals as goal
+use Rattle.spelling.proofs.put_guard_line.Goals.{Else-guard}
+
+its_text : (c : Else-guard) → guard_text c.args.labels.now c.args.guards.now c.args.i c.args.j ≡ pair_text c.args.labels.now c.args.guards.now c.args.i c.args.j
+its_text c = guard_some c.args.labels.now c.args.guards.now c.args.i c.args.j (pair_joined c.args.guards.now c.args.i c.args.j (omega arith) (omega (arith, c.if-guard.false, c.shared_slice_known-3-1.given (128 * c.args.i + c.args.j))))
 
 pub returns-then-guard : goal.returns-then-guard
 returns-then-guard c =
@@ -15,32 +19,27 @@ returns-then-guard c =
 
 pub put_label-p-requires : goal.put_label-p-requires
 put_label-p-requires c =
-    let its_text : guard_text c.args.labels.now c.args.guards.now c.args.i c.args.j ≡ pair_text c.args.labels.now c.args.guards.now c.args.i c.args.j = guard_some c.args.labels.now c.args.guards.now c.args.i c.args.j (pair_joined c.args.guards.now c.args.i c.args.j (omega arith) (omega (arith, c.if-guard.false, c.shared_slice_known-3-1.given (128 * c.args.i + c.args.j)))) in
-    omega (arith, ap length (its_text), pair_length c.args.labels.now c.args.guards.now c.args.i c.args.j, c.requires)
+    omega (arith, ap length (its_text (goal.at.put_label-p-requires c).Else-guard), pair_length c.args.labels.now c.args.guards.now c.args.i c.args.j, c.requires)
 
 pub put_word-q-requires : goal.put_word-q-requires
 put_word-q-requires c =
-    let its_text : guard_text c.args.labels.now c.args.guards.now c.args.i c.args.j ≡ pair_text c.args.labels.now c.args.guards.now c.args.i c.args.j = guard_some c.args.labels.now c.args.guards.now c.args.i c.args.j (pair_joined c.args.guards.now c.args.i c.args.j (omega arith) (omega (arith, c.if-guard.false, c.shared_slice_known-3-1.given (128 * c.args.i + c.args.j)))) in
-    omega (arith, ap length (its_text), pair_length c.args.labels.now c.args.guards.now c.args.i c.args.j, c.requires, c.put_label-p.ensures.0, c.put_label-p.auto)
+    omega (arith, ap length (its_text (goal.at.put_word-q-requires c).Else-guard), pair_length c.args.labels.now c.args.guards.now c.args.i c.args.j, c.requires, c.put_label-p.ensures.0, c.put_label-p.auto)
 
 pub put_label-e-requires : goal.put_label-e-requires
 put_label-e-requires c =
-    let its_text : guard_text c.args.labels.now c.args.guards.now c.args.i c.args.j ≡ pair_text c.args.labels.now c.args.guards.now c.args.i c.args.j = guard_some c.args.labels.now c.args.guards.now c.args.i c.args.j (pair_joined c.args.guards.now c.args.i c.args.j (omega arith) (omega (arith, c.if-guard.false, c.shared_slice_known-3-1.given (128 * c.args.i + c.args.j)))) in
-    omega (arith, ap length (its_text), pair_length c.args.labels.now c.args.guards.now c.args.i c.args.j, c.requires, c.put_label-p.ensures.0, c.put_label-p.auto, c.put_word-q.ensures.0, c.put_word-q.auto)
+    omega (arith, ap length (its_text (goal.at.put_label-e-requires c).Else-guard), pair_length c.args.labels.now c.args.guards.now c.args.i c.args.j, c.requires, c.put_label-p.ensures.0, c.put_label-p.auto, c.put_word-q.ensures.0, c.put_word-q.auto)
 
 pub overflow_cast-guard : goal.overflow_cast-guard
 overflow_cast-guard c = omega (arith, c.shared_slice_known-3-1.given (128 * c.args.i + c.args.j))
 
 pub put_last-requires : goal.put_last-requires
 put_last-requires c =
-    let its_text : guard_text c.args.labels.now c.args.guards.now c.args.i c.args.j ≡ pair_text c.args.labels.now c.args.guards.now c.args.i c.args.j = guard_some c.args.labels.now c.args.guards.now c.args.i c.args.j (pair_joined c.args.guards.now c.args.i c.args.j (omega arith) (omega (arith, c.if-guard.false, c.shared_slice_known-3-1.given (128 * c.args.i + c.args.j)))) in
-    omega (arith, ap length (its_text), pair_length c.args.labels.now c.args.guards.now c.args.i c.args.j, c.requires, c.put_label-p.ensures.0, c.put_label-p.auto, c.put_word-q.ensures.0, c.put_word-q.auto, c.put_label-e.ensures.0, c.put_label-e.auto, c.shared_slice_known-3-1.given (128 * c.args.i + c.args.j))
+    omega (arith, ap length (its_text (goal.at.put_last-requires c).Else-guard), pair_length c.args.labels.now c.args.guards.now c.args.i c.args.j, c.requires, c.put_label-p.ensures.0, c.put_label-p.auto, c.put_word-q.ensures.0, c.put_word-q.auto, c.put_label-e.ensures.0, c.put_label-e.auto, c.shared_slice_known-3-1.given (128 * c.args.i + c.args.j))
 
 pub returns : goal.returns
 returns c =
-    let its_text : guard_text c.args.labels.now c.args.guards.now c.args.i c.args.j ≡ pair_text c.args.labels.now c.args.guards.now c.args.i c.args.j = guard_some c.args.labels.now c.args.guards.now c.args.i c.args.j (pair_joined c.args.guards.now c.args.i c.args.j (omega arith) (omega (arith, c.if-guard.false, c.shared_slice_known-3-1.given (128 * c.args.i + c.args.j)))) in
     let last = space ++ (numeral (at c.args.guards.now (cell c.args.i c.args.j)) ++ line_feed) in
-    rw (its_text)
+    rw (its_text (goal.at.returns c).Else-guard)
     (both_pieces c.args.text.now c.put_label-p.new.text c.put_last.new.text c.args.place c.put_label-p.result c.put_last.result (label_of c.args.labels.now c.args.i) (space ++ (label_of c.args.labels.now c.args.j ++ last)) c.put_label-p.ensures
     (both_pieces c.put_label-p.new.text c.put_word-q.new.text c.put_last.new.text c.put_label-p.result c.put_word-q.result c.put_last.result space (label_of c.args.labels.now c.args.j ++ last) c.put_word-q.ensures
     (both_pieces c.put_word-q.new.text c.put_label-e.new.text c.put_last.new.text c.put_word-q.result c.put_label-e.result c.put_last.result (label_of c.args.labels.now c.args.j) last c.put_label-e.ensures c.put_last.ensures)))

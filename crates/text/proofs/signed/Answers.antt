@@ -6,6 +6,13 @@ use Rattle.text.specs.declared.Next.TheVariants.{At, Missing}
 use Rattle.text.specs.declared.Amount.TheVariants.{Is, Unread}
 use Rattle.sheet_laws.specs.Grid.{hyphen_none, hyphen_zero, hyphen_some}
 use Rattle.text.proofs.signed.Goals as goal
+use Rattle.text.proofs.signed.Goals.{In-At, In-Is}
+
+at_e : (c : In-At) → WordIs c.args.text.now c.args.place (45 ∷ []) (At c.in-At.e)
+at_e c = rw c.in-At.is at c.word.ensures
+
+at_v : (c : In-Is) → NumberIs c.args.text.now c.in-At.e (Is c.in-Is.v c.in-Is.next)
+at_v c = rw c.in-Is.is at c.number.ensures
 
 pub unsigned-requires : goal.unsigned-requires
 unsigned-requires c =
@@ -14,30 +21,23 @@ unsigned-requires c =
 
 pub number-requires : goal.number-requires
 number-requires c =
-    let at_e : WordIs c.args.text.now c.args.place (45 ∷ []) (At c.in-At.e) = rw c.in-At.is at c.word.ensures in
-    (at_e).1
+    (at_e (goal.at.number-requires c).In-At).1
 
 pub returns-in_default-number : goal.returns-in_default-number
 returns-in_default-number c =
-    let at_e : WordIs c.args.text.now c.args.place (45 ∷ []) (At c.in-At.e) = rw c.in-At.is at c.word.ensures in
     let z : NumberIs c.args.text.now c.in-At.e Unread = rw c.in_default-number.is at c.number.ensures in
-    hyphen_none (drop c.args.place c.args.text.now) (drop c.in-At.e c.args.text.now) (at_e).0 z
+    hyphen_none (drop c.args.place c.args.text.now) (drop c.in-At.e c.args.text.now) (at_e (goal.at.returns-in_default-number c).In-At).0 z
 
 pub returns-then-v-eq0 : goal.returns-then-v-eq0
 returns-then-v-eq0 c =
-    let at_v : NumberIs c.args.text.now c.in-At.e (Is c.in-Is.v c.in-Is.next) = rw c.in-Is.is at c.number.ensures in
-    let at_e : WordIs c.args.text.now c.args.place (45 ∷ []) (At c.in-At.e) = rw c.in-At.is at c.word.ensures in
-    let z : NumberIs c.args.text.now c.in-At.e (Is 0 c.in-Is.next) = rw c.if-v-eq0.true at (at_v) in
-    hyphen_zero (drop c.args.place c.args.text.now) (drop c.in-At.e c.args.text.now) (at_e).0 (drop c.in-Is.next c.args.text.now) z.0
+    let z : NumberIs c.args.text.now c.in-At.e (Is 0 c.in-Is.next) = rw c.if-v-eq0.true at (at_v (goal.at.returns-then-v-eq0 c).In-Is) in
+    hyphen_zero (drop c.args.place c.args.text.now) (drop c.in-At.e c.args.text.now) (at_e (goal.at.returns-then-v-eq0 c).In-At).0 (drop c.in-Is.next c.args.text.now) z.0
 
 pub overflow_sub-result : goal.overflow_sub-result
 overflow_sub-result c =
-    let at_v : NumberIs c.args.text.now c.in-At.e (Is c.in-Is.v c.in-Is.next) = rw c.in-Is.is at c.number.ensures in
-    omega (arith, at_v)
+    omega (arith, at_v (goal.at.overflow_sub-result c).In-Is)
 
 pub returns : goal.returns
 returns c =
-    let at_v : NumberIs c.args.text.now c.in-At.e (Is c.in-Is.v c.in-Is.next) = rw c.in-Is.is at c.number.ensures in
-    let at_e : WordIs c.args.text.now c.args.place (45 ∷ []) (At c.in-At.e) = rw c.in-At.is at c.word.ensures in
-    let z = at_v in
-    (hyphen_some (drop c.args.place c.args.text.now) (drop c.in-At.e c.args.text.now) (at_e).0 c.in-Is.v (drop c.in-Is.next c.args.text.now) z.0 (omega (arith, c.if-v-eq0.false)) (omega (arith, z.1)), omega arith, z.2)
+    let z = at_v (goal.at.returns c).In-Is in
+    (hyphen_some (drop c.args.place c.args.text.now) (drop c.in-At.e c.args.text.now) (at_e (goal.at.returns c).In-At).0 c.in-Is.v (drop c.in-Is.next c.args.text.now) z.0 (omega (arith, c.if-v-eq0.false)) (omega (arith, z.1)), omega arith, z.2)

@@ -4,6 +4,14 @@ use mathlib.Core.Path.{refl}
 use Rattle.rules.specs.Tables.{at}
 use Rattle.table_laws.specs.Updates.{update_none, update_more}
 use Rattle.walks.proofs.row_of.Goals as goal
+use Rattle.walks.proofs.row_of.Goals.{In-loop-q, Start}
+
+-- entries of the list are paths
+from_lt : (c : Start) → at c.args.list.now c.args.p < 128
+from_lt c = c.requires.1.1.1 c.args.p c.requires.1.1.0
+
+to_lt : (c : In-loop-q) → at c.args.list.now c.loop-q.q < 128
+to_lt c = c.requires.1.1.1 c.loop-q.q (omega arith)
 
 pub overflow_cast-from : goal.overflow_cast-from
 overflow_cast-from c = omega (arith, c.shared_slice_known-1.given c.args.p)
@@ -16,21 +24,15 @@ overflow_cast-to c = omega (arith, c.shared_slice_known-in-loop-q-1.given c.loop
 
 pub overflow_mul-row : goal.overflow_mul-row
 overflow_mul-row c =
-    -- entries of the list are paths
-    let from_lt : at c.args.list.now c.args.p < 128 = c.requires.1.1.1 c.args.p c.requires.1.1.0 in
-    omega (arith, from_lt)
+    omega (arith, from_lt (goal.at.overflow_mul-row c).Start)
 
 pub overflow_add-row : goal.overflow_add-row
 overflow_add-row c =
-    let from_lt : at c.args.list.now c.args.p < 128 = c.requires.1.1.1 c.args.p c.requires.1.1.0 in
-    let to_lt : at c.args.list.now c.loop-q.q < 128 = c.requires.1.1.1 c.loop-q.q (omega arith) in
-    omega (arith, from_lt, to_lt)
+    omega (arith, from_lt (goal.at.overflow_add-row c).Start, to_lt (goal.at.overflow_add-row c).In-loop-q)
 
 pub bounds-guards-from : goal.bounds-guards-from
 bounds-guards-from c =
-    let from_lt : at c.args.list.now c.args.p < 128 = c.requires.1.1.1 c.args.p c.requires.1.1.0 in
-    let to_lt : at c.args.list.now c.loop-q.q < 128 = c.requires.1.1.1 c.loop-q.q (omega arith) in
-    omega (arith, from_lt, to_lt)
+    omega (arith, from_lt (goal.at.bounds-guards-from c).Start, to_lt (goal.at.bounds-guards-from c).In-loop-q)
 
 pub bounds-row-q : goal.bounds-row-q
 bounds-row-q c = omega (arith, c.loop-q.invariant.1.long)

@@ -9,6 +9,15 @@ use Rattle.walks.specs.Square.{guard_in}
 use Rattle.walks.specs.Filled.{filled_none}
 use Rattle.walks.specs.Joined.{joined_shortest}
 use Rattle.walks.proofs.shortest_in.Goals as goal
+use Rattle.walks.proofs.shortest_in.Goals.{After-sets-half, Start}
+
+-- the table has room for all sets
+room : (c : Start) → 8 * power c.args.last ≤ length c.args.walks.now
+room c = rw c.requires.1.1.1.1 (rw (cleared_length c.requires.1.1.0 255) c.requires.1.1.1.0)
+
+-- there are at most 256 sets
+most : (c : After-sets-half) → c.sets-half.result ≤ 256
+most c = omega (arith, c.sets-half.ensures, power_most c.args.last (omega (arith, c.requires.0)))
 
 pub sets-half-requires : goal.sets-half-requires
 sets-half-requires c = omega (arith, c.requires.0)
@@ -20,15 +29,11 @@ loop-s-init c =
 
 pub fill_set-requires : goal.fill_set-requires
 fill_set-requires c =
-    -- the table has room for all sets
-    let room : 8 * power c.args.last ≤ length c.args.walks.now = rw c.requires.1.1.1.1 (rw (cleared_length c.requires.1.1.0 255) c.requires.1.1.1.0) in
-    (omega (arith, c.requires.0), (omega arith, (omega (arith, room, c.loop-s.invariant.1.1.0), c.loop-s.invariant.1.1.1)))
+    (omega (arith, c.requires.0), (omega arith, (omega (arith, room (goal.at.fill_set-requires c).Start, c.loop-s.invariant.1.1.0), c.loop-s.invariant.1.1.1)))
 
 pub overflow_add-s : goal.overflow_add-s
 overflow_add-s c =
-    -- there are at most 256 sets
-    let most : c.sets-half.result ≤ 256 = omega (arith, c.sets-half.ensures, power_most c.args.last (omega (arith, c.requires.0))) in
-    omega (arith, most)
+    omega (arith, most (goal.at.overflow_add-s c).After-sets-half)
 
 pub loop-s-preserved : goal.loop-s-preserved
 loop-s-preserved c =
@@ -36,9 +41,7 @@ loop-s-preserved c =
 
 pub least_joined-requires : goal.least_joined-requires
 least_joined-requires c =
-    let most : c.sets-half.result ≤ 256 = omega (arith, c.sets-half.ensures, power_most c.args.last (omega (arith, c.requires.0))) in
-    let room : 8 * power c.args.last ≤ length c.args.walks.now = rw c.requires.1.1.1.1 (rw (cleared_length c.requires.1.1.0 255) c.requires.1.1.1.0) in
-    (omega (arith, power_pos c.args.last), (most, omega (arith, room, c.loop-s.invariant.1.1.0)))
+    (omega (arith, power_pos c.args.last), ((most (goal.at.least_joined-requires c).After-sets-half), omega (arith, room (goal.at.least_joined-requires c).Start, c.loop-s.invariant.1.1.0)))
 
 pub shape_of-walks : goal.shape_of-walks
 shape_of-walks c = c.loop-s.invariant.1.1.0
