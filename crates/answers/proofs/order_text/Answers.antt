@@ -12,6 +12,13 @@ use Rattle.sheet_laws.specs.Grid.{lowered}
 use Rattle.grid.proofs.Anchors.{lowered_on}
 use Rattle.answers.proofs.Answers.{retold, judge_told, order_refused, order_done, order_within, blank_order}
 use Rattle.answers.proofs.order_text.Goals as goal
+use Rattle.answers.proofs.order_text.Goals.{After-order_write-written}
+
+-- the call of the writing, by the anchor as it is counted
+wrote : (c : After-order_write-written) → left c.order_write-written.result c.order_write-written.new.text ≡ order_writing (lowered c.args.anchor) c.args.n c.args.labels.now (lend c.args.widths.now c.args.guards.now) c.args.starts.now (replicate 2314 0)
+wrote c =
+    c.order_write-written.ensures
+    ∙ ap (λ (z : ℤ). order_writing z c.args.n c.args.labels.now (lend c.args.widths.now c.args.guards.now) c.args.starts.now (replicate 2314 0)) (lowered_on c.args.anchor c.requires.0 c.uncounted.result c.uncounted.ensures)
 
 pub put_refused-requires : goal.put_refused-requires
 put_refused-requires c =
@@ -23,16 +30,11 @@ returns-then-fault-ne0 c =
 
 pub slice_bounds-sheet-end : goal.slice_bounds-sheet-end
 slice_bounds-sheet-end c =
-    -- the call of the writing, by the anchor as it is counted
-    let wrote : left c.order_write-written.result c.order_write-written.new.text ≡ order_writing (lowered c.args.anchor) c.args.n c.args.labels.now (lend c.args.widths.now c.args.guards.now) c.args.starts.now (replicate 2314 0) = c.order_write-written.ensures
-    ∙ ap (λ (z : ℤ). order_writing z c.args.n c.args.labels.now (lend c.args.widths.now c.args.guards.now) c.args.starts.now (replicate 2314 0)) (lowered_on c.args.anchor c.requires.0 c.uncounted.result c.uncounted.ensures) in
-    order_within (lowered c.args.anchor) c.args.n c.args.labels.now (lend c.args.widths.now c.args.guards.now) c.args.starts.now c.judge-fault.result c.judge-fault.ensures (replicate 2314 0) c.order_write-written.new.text c.order_write-written.result blank_order (wrote)
+    order_within (lowered c.args.anchor) c.args.n c.args.labels.now (lend c.args.widths.now c.args.guards.now) c.args.starts.now c.judge-fault.result c.judge-fault.ensures (replicate 2314 0) c.order_write-written.new.text c.order_write-written.result blank_order (wrote (goal.at.slice_bounds-sheet-end c).After-order_write-written)
 
 pub slice_bounds-put_word-end : goal.slice_bounds-put_word-end
 slice_bounds-put_word-end c =
-    let wrote : left c.order_write-written.result c.order_write-written.new.text ≡ order_writing (lowered c.args.anchor) c.args.n c.args.labels.now (lend c.args.widths.now c.args.guards.now) c.args.starts.now (replicate 2314 0) = c.order_write-written.ensures
-    ∙ ap (λ (z : ℤ). order_writing z c.args.n c.args.labels.now (lend c.args.widths.now c.args.guards.now) c.args.starts.now (replicate 2314 0)) (lowered_on c.args.anchor c.requires.0 c.uncounted.result c.uncounted.ensures) in
-    let l = order_within (lowered c.args.anchor) c.args.n c.args.labels.now (lend c.args.widths.now c.args.guards.now) c.args.starts.now c.judge-fault.result c.judge-fault.ensures (replicate 2314 0) c.order_write-written.new.text c.order_write-written.result blank_order (wrote) in
+    let l = order_within (lowered c.args.anchor) c.args.n c.args.labels.now (lend c.args.widths.now c.args.guards.now) c.args.starts.now c.judge-fault.result c.judge-fault.ensures (replicate 2314 0) c.order_write-written.new.text c.order_write-written.result blank_order (wrote (goal.at.slice_bounds-put_word-end c).After-order_write-written) in
     sym (length-take-le c.order_write-written.result.length c.order_write-written.new.text l)
 
 pub put_word-requires : goal.put_word-requires
@@ -41,6 +43,4 @@ put_word-requires c =
 
 pub returns : goal.returns
 returns c =
-    let wrote : left c.order_write-written.result c.order_write-written.new.text ≡ order_writing (lowered c.args.anchor) c.args.n c.args.labels.now (lend c.args.widths.now c.args.guards.now) c.args.starts.now (replicate 2314 0) = c.order_write-written.ensures
-    ∙ ap (λ (z : ℤ). order_writing z c.args.n c.args.labels.now (lend c.args.widths.now c.args.guards.now) c.args.starts.now (replicate 2314 0)) (lowered_on c.args.anchor c.requires.0 c.uncounted.result c.uncounted.ensures) in
-    record { wrote = retold c.args.out.now c.put_word.new.text (take c.order_write-written.result.length c.order_write-written.new.text) (ordered_text (lowered c.args.anchor) c.args.n c.args.labels.now (lend c.args.widths.now c.args.guards.now) c.args.starts.now) 0 c.put_word.result (order_done (lowered c.args.anchor) c.args.n c.args.labels.now (lend c.args.widths.now c.args.guards.now) c.args.starts.now c.judge-fault.result c.judge-fault.ensures (replicate 2314 0) c.order_write-written.new.text c.order_write-written.result blank_order (wrote) c.if-fault-ne0.false) c.put_word.ensures; upper_bound = omega (arith, c.put_word.ensures.0, length-take c.order_write-written.result.length c.order_write-written.new.text, c.order_write-written.auto.text, ap length blank_order, cleared_length 2314 0) }
+    record { wrote = retold c.args.out.now c.put_word.new.text (take c.order_write-written.result.length c.order_write-written.new.text) (ordered_text (lowered c.args.anchor) c.args.n c.args.labels.now (lend c.args.widths.now c.args.guards.now) c.args.starts.now) 0 c.put_word.result (order_done (lowered c.args.anchor) c.args.n c.args.labels.now (lend c.args.widths.now c.args.guards.now) c.args.starts.now c.judge-fault.result c.judge-fault.ensures (replicate 2314 0) c.order_write-written.new.text c.order_write-written.result blank_order (wrote (goal.at.returns c).After-order_write-written) c.if-fault-ne0.false) c.put_word.ensures; upper_bound = omega (arith, c.put_word.ensures.0, length-take c.order_write-written.result.length c.order_write-written.new.text, c.order_write-written.auto.text, ap length blank_order, cleared_length 2314 0) }

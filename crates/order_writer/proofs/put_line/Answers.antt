@@ -12,36 +12,34 @@ use Rattle.sheet_laws.specs.Writes.{both_pieces}
 use Rattle.sheet_laws.specs.Grid.{lowered, order_line_length}
 use Rattle.spelling.specs.Says.{Wrote}
 use Rattle.order_writer.proofs.put_line.Goals as goal
+use Rattle.order_writer.proofs.put_line.Goals.{After-line_number-n}
+
+-- the length of the whole line, by its fields
+whole : (c : After-line_number-n) → length (order_line_text (lowered c.args.anchor) c.args.labels.now c.args.widths.now c.args.starts.now c.args.k) ≡ length (label_of c.args.labels.now c.args.k) + length (signed_numeral (lowered c.line_number-n.result)) + length (numeral (at c.args.widths.now c.args.k)) + 3
+whole c =
+    let e = ap (λ (z : ℤ). length (signed_numeral z)) c.line_number-n.ensures.0 in
+    omega (arith, order_line_length (lowered c.args.anchor) c.args.labels.now c.args.widths.now c.args.starts.now c.args.k, e)
 
 pub put_label-p-requires : goal.put_label-p-requires
 put_label-p-requires c =
-    -- the length of the whole line, by its fields
-    let whole : length (order_line_text (lowered c.args.anchor) c.args.labels.now c.args.widths.now c.args.starts.now c.args.k) ≡ length (label_of c.args.labels.now c.args.k) + length (signed_numeral (lowered c.line_number-n.result)) + length (numeral (at c.args.widths.now c.args.k)) + 3 = let e = ap (λ (z : ℤ). length (signed_numeral z)) c.line_number-n.ensures.0 in
-    omega (arith, order_line_length (lowered c.args.anchor) c.args.labels.now c.args.widths.now c.args.starts.now c.args.k, e) in
-    (c.requires.0.row, omega (arith, whole, c.requires.1))
+    (c.requires.0.row, omega (arith, whole (goal.at.put_label-p-requires c).After-line_number-n, c.requires.1))
 
 pub put_word-q-requires : goal.put_word-q-requires
 put_word-q-requires c =
-    let whole : length (order_line_text (lowered c.args.anchor) c.args.labels.now c.args.widths.now c.args.starts.now c.args.k) ≡ length (label_of c.args.labels.now c.args.k) + length (signed_numeral (lowered c.line_number-n.result)) + length (numeral (at c.args.widths.now c.args.k)) + 3 = let e = ap (λ (z : ℤ). length (signed_numeral z)) c.line_number-n.ensures.0 in
-    omega (arith, order_line_length (lowered c.args.anchor) c.args.labels.now c.args.widths.now c.args.starts.now c.args.k, e) in
-    omega (arith, whole, c.requires.1, c.put_label-p.ensures.0, c.put_label-p.auto)
+    omega (arith, whole (goal.at.put_word-q-requires c).After-line_number-n, c.requires.1, c.put_label-p.ensures.0, c.put_label-p.auto)
 
 pub put_signed-e-requires : goal.put_signed-e-requires
-put_signed-e-requires c =
-    let whole : length (order_line_text (lowered c.args.anchor) c.args.labels.now c.args.widths.now c.args.starts.now c.args.k) ≡ length (label_of c.args.labels.now c.args.k) + length (signed_numeral (lowered c.line_number-n.result)) + length (numeral (at c.args.widths.now c.args.k)) + 3 = let e = ap (λ (z : ℤ). length (signed_numeral z)) c.line_number-n.ensures.0 in
-    omega (arith, order_line_length (lowered c.args.anchor) c.args.labels.now c.args.widths.now c.args.starts.now c.args.k, e) in (
-      c.line_number-n.ensures.1,
-      c.line_number-n.ensures.2,
-      omega (arith, whole, c.requires.1, c.put_label-p.ensures.0, c.put_label-p.auto, c.put_word-q.ensures.0, c.put_word-q.auto),
-    )
+put_signed-e-requires c = (
+  c.line_number-n.ensures.1,
+  c.line_number-n.ensures.2,
+  omega (arith, whole (goal.at.put_signed-e-requires c).After-line_number-n, c.requires.1, c.put_label-p.ensures.0, c.put_label-p.auto, c.put_word-q.ensures.0, c.put_word-q.auto),
+)
 
 pub put_last-requires : goal.put_last-requires
-put_last-requires c =
-    let whole : length (order_line_text (lowered c.args.anchor) c.args.labels.now c.args.widths.now c.args.starts.now c.args.k) ≡ length (label_of c.args.labels.now c.args.k) + length (signed_numeral (lowered c.line_number-n.result)) + length (numeral (at c.args.widths.now c.args.k)) + 3 = let e = ap (λ (z : ℤ). length (signed_numeral z)) c.line_number-n.ensures.0 in
-    omega (arith, order_line_length (lowered c.args.anchor) c.args.labels.now c.args.widths.now c.args.starts.now c.args.k, e) in (
-      omega (arith, c.requires.0.narrow),
-      omega (arith, whole, c.requires.1, c.put_label-p.ensures.0, c.put_label-p.auto, c.put_word-q.ensures.0, c.put_word-q.auto, c.put_signed-e.ensures.0, c.put_signed-e.auto),
-    )
+put_last-requires c = (
+  omega (arith, c.requires.0.narrow),
+  omega (arith, whole (goal.at.put_last-requires c).After-line_number-n, c.requires.1, c.put_label-p.ensures.0, c.put_label-p.auto, c.put_word-q.ensures.0, c.put_word-q.auto, c.put_signed-e.ensures.0, c.put_signed-e.auto),
+)
 
 pub returns : goal.returns
 unfolding order_line_text

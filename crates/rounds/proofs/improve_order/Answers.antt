@@ -4,6 +4,13 @@ use Rattle.rules.specs.Tables.{lend}
 use Rattle.table_laws.specs.Updates.{kept_none, kept_then}
 use Rattle.plan_laws.specs.Answers.{Packable}
 use Rattle.rounds.proofs.improve_order.Goals as goal
+use Rattle.rounds.proofs.improve_order.Goals.{At-loop-k}
+
+-- the order so far, and the table as it stands, can be packed
+standing : (c : At-loop-k) → Packable c.args.n (lend c.args.widths.now c.args.guards.now) c.loop-k.order c.loop-k.need
+standing c =
+    improving_packable c.args.n (lend c.args.widths.now c.args.guards.now) c.args.order.now c.args.seed c.args.need.now c.requires.0 c.loop-k.order c.loop-k.run c.loop-k.k c.loop-k.invariant.1.0 c.loop-k.need
+    (c.loop-k.invariant.1.1.size ∙ c.height_of-h.ensures.kept_from.size ∙ c.requires.0.starts_size)
 
 pub height_of-h-requires : goal.height_of-h-requires
 height_of-h-requires c = c.requires.0
@@ -14,10 +21,7 @@ loop-k-init c =
 
 pub one_round-run-requires : goal.one_round-run-requires
 one_round-run-requires c =
-    -- the order so far, and the table as it stands, can be packed
-    let standing : Packable c.args.n (lend c.args.widths.now c.args.guards.now) c.loop-k.order c.loop-k.need = improving_packable c.args.n (lend c.args.widths.now c.args.guards.now) c.args.order.now c.args.seed c.args.need.now c.requires.0 c.loop-k.order c.loop-k.run c.loop-k.k c.loop-k.invariant.1.0 c.loop-k.need
-    (c.loop-k.invariant.1.1.size ∙ c.height_of-h.ensures.kept_from.size ∙ c.requires.0.starts_size) in
-    (standing, omega (arith, c.loop-k.invariant.1.0.few, c.loop-k-test.true, c.requires.1))
+    ((standing (goal.at.one_round-run-requires c).At-loop-k), omega (arith, c.loop-k.invariant.1.0.few, c.loop-k-test.true, c.requires.1))
 
 pub overflow_add-k : goal.overflow_add-k
 overflow_add-k c = omega (arith, c.loop-k-test.true, c.requires.1)
@@ -36,15 +40,11 @@ loop-k-preserved c = (
 
 pub shape_of-order : goal.shape_of-order
 shape_of-order c =
-    let standing : Packable c.args.n (lend c.args.widths.now c.args.guards.now) c.loop-k.order c.loop-k.need = improving_packable c.args.n (lend c.args.widths.now c.args.guards.now) c.args.order.now c.args.seed c.args.need.now c.requires.0 c.loop-k.order c.loop-k.run c.loop-k.k c.loop-k.invariant.1.0 c.loop-k.need
-    (c.loop-k.invariant.1.1.size ∙ c.height_of-h.ensures.kept_from.size ∙ c.requires.0.starts_size) in
-    (standing).order_size ∙ sym c.requires.0.order_size
+    (standing (goal.at.shape_of-order c).At-loop-k).order_size ∙ sym c.requires.0.order_size
 
 pub shape_of-need : goal.shape_of-need
 shape_of-need c =
-    let standing : Packable c.args.n (lend c.args.widths.now c.args.guards.now) c.loop-k.order c.loop-k.need = improving_packable c.args.n (lend c.args.widths.now c.args.guards.now) c.args.order.now c.args.seed c.args.need.now c.requires.0 c.loop-k.order c.loop-k.run c.loop-k.k c.loop-k.invariant.1.0 c.loop-k.need
-    (c.loop-k.invariant.1.1.size ∙ c.height_of-h.ensures.kept_from.size ∙ c.requires.0.starts_size) in
-    (standing).starts_size ∙ sym c.requires.0.starts_size
+    (standing (goal.at.shape_of-need c).At-loop-k).starts_size ∙ sym c.requires.0.starts_size
 
 pub returns : goal.returns
 returns c =

@@ -11,10 +11,13 @@ use Rattle.sections.specs.Says.{SectionIs, PartWithin}
 use Rattle.sections.specs.declared.Part.TheVariants.{Over, Halt}
 use Rattle.sheet_laws.specs.Lines.{sheet_ill, sheet_few, sheet_many, sheet_halt, sheet_later, sheet_done}
 use Rattle.whole_sheet.proofs.sheet_parts.Goals as goal
-use Rattle.whole_sheet.proofs.sheet_parts.Goals.{In-Is}
+use Rattle.whole_sheet.proofs.sheet_parts.Goals.{In-Is, In-Over}
 
 at_n : (c : In-Is) → CountIs c.args.text.now 0 paths_word (Is c.in-Is.n c.in-Is.e)
 at_n c = rw c.in-Is.is at c.count_line.ensures
+
+at_f : (c : In-Over) → PartWithin c.args.text.now (Over c.in-Over.f) × SectionIs {T = List ℕ × List ℕ} c.args.text.now (c.paths.new.labels, c.paths.new.widths) (lines path_step 2 c.in-Is.n 0 (c.args.labels.now, c.args.widths.now) (drop c.in-Is.e c.args.text.now)) (Over c.in-Over.f)
+at_f c = rw c.in-Over.is at c.paths.ensures
 
 pub returns-in_default : goal.returns-in_default
 returns-in_default c =
@@ -35,8 +38,7 @@ paths-requires c =
 
 pub guards_part-requires : goal.guards_part-requires
 guards_part-requires c =
-    let at_f : PartWithin c.args.text.now (Over c.in-Over.f) × SectionIs {T = List ℕ × List ℕ} c.args.text.now (c.paths.new.labels, c.paths.new.widths) (lines path_step 2 c.in-Is.n 0 (c.args.labels.now, c.args.widths.now) (drop c.in-Is.e c.args.text.now)) (Over c.in-Over.f) = rw c.in-Over.is at c.paths.ensures in
-    omega (arith, (at_f).0, c.requires, c.if-n-gt-PATHS.false, c.paths.auto)
+    omega (arith, (at_f (goal.at.guards_part-requires c).In-Over).0, c.requires, c.if-n-gt-PATHS.false, c.paths.auto)
 
 pub returns-in-Halt : goal.returns-in-Halt
 returns-in-Halt c =
@@ -45,14 +47,12 @@ returns-in-Halt c =
 
 pub returns-in-Halt-guards_part : goal.returns-in-Halt-guards_part
 returns-in-Halt-guards_part c =
-    let at_f : PartWithin c.args.text.now (Over c.in-Over.f) × SectionIs {T = List ℕ × List ℕ} c.args.text.now (c.paths.new.labels, c.paths.new.widths) (lines path_step 2 c.in-Is.n 0 (c.args.labels.now, c.args.widths.now) (drop c.in-Is.e c.args.text.now)) (Over c.in-Over.f) = rw c.in-Over.is at c.paths.ensures in
     let l = drop c.in-Over.f c.args.text.now in
     let z : SectionIs {T = List ℕ × List ℕ} c.args.text.now (c.guards_part.new.square, c.guards_part.new.table) (guards_part c.in-Is.n c.paths.new.labels c.args.square.now c.args.table.now l) (Halt c.in-Halt-guards_part.x c.in-Halt-guards_part.y) = (rw c.in-Halt-guards_part.is at c.guards_part.ensures).1 in
-    sheet_later c.args.labels.now (lend c.args.widths.now c.args.square.now) c.args.table.now c.args.text.now c.in-Is.n (drop c.in-Is.e c.args.text.now) (at_n (goal.at.returns-in-Halt-guards_part c).In-Is).0 c.if-n-lt1.false c.if-n-gt-PATHS.false c.paths.new.labels c.paths.new.widths l (at_f).1 c.in-Halt-guards_part.x c.in-Halt-guards_part.y z
+    sheet_later c.args.labels.now (lend c.args.widths.now c.args.square.now) c.args.table.now c.args.text.now c.in-Is.n (drop c.in-Is.e c.args.text.now) (at_n (goal.at.returns-in-Halt-guards_part c).In-Is).0 c.if-n-lt1.false c.if-n-gt-PATHS.false c.paths.new.labels c.paths.new.widths l (at_f (goal.at.returns-in-Halt-guards_part c).In-Over).1 c.in-Halt-guards_part.x c.in-Halt-guards_part.y z
 
 pub returns-in-Over-guards_part : goal.returns-in-Over-guards_part
 returns-in-Over-guards_part c =
-    let at_f : PartWithin c.args.text.now (Over c.in-Over.f) × SectionIs {T = List ℕ × List ℕ} c.args.text.now (c.paths.new.labels, c.paths.new.widths) (lines path_step 2 c.in-Is.n 0 (c.args.labels.now, c.args.widths.now) (drop c.in-Is.e c.args.text.now)) (Over c.in-Over.f) = rw c.in-Over.is at c.paths.ensures in
     let l = drop c.in-Over.f c.args.text.now in
     let z : SectionIs {T = List ℕ × List ℕ} c.args.text.now (c.guards_part.new.square, c.guards_part.new.table) (guards_part c.in-Is.n c.paths.new.labels c.args.square.now c.args.table.now l) (Over c.in-Over-guards_part.field-0) = (rw c.in-Over-guards_part.is at c.guards_part.ensures).1 in
-    sheet_done c.args.labels.now (lend c.args.widths.now c.args.square.now) c.args.table.now c.args.text.now c.in-Is.n (drop c.in-Is.e c.args.text.now) (at_n (goal.at.returns-in-Over-guards_part c).In-Is).0 c.if-n-lt1.false c.if-n-gt-PATHS.false c.paths.new.labels c.paths.new.widths l (at_f).1 c.guards_part.new.square c.guards_part.new.table (drop c.in-Over-guards_part.field-0 c.args.text.now) z
+    sheet_done c.args.labels.now (lend c.args.widths.now c.args.square.now) c.args.table.now c.args.text.now c.in-Is.n (drop c.in-Is.e c.args.text.now) (at_n (goal.at.returns-in-Over-guards_part c).In-Is).0 c.if-n-lt1.false c.if-n-gt-PATHS.false c.paths.new.labels c.paths.new.widths l (at_f (goal.at.returns-in-Over-guards_part c).In-Over).1 c.guards_part.new.square c.guards_part.new.table (drop c.in-Over-guards_part.field-0 c.args.text.now) z
