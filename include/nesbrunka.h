@@ -38,21 +38,21 @@
  * pointer down: arguments on the stack, return address, and all below. memset and memcpy count
  * with their return address alone. No function calls itself. README.md says what each call holds.
  *
- *   nesbrunka_judge            336
- *   nesbrunka_pack             544
- *   nesbrunka_press            784
- *   nesbrunka_why              688
- *   nesbrunka_better           640
- *   nesbrunka_two_sides        288
- *   nesbrunka_plan             704
- *   nesbrunka_improve          616
- *   nesbrunka_floor          1,280
- *   nesbrunka_read             312
- *   nesbrunka_write            384
+ *   nesbrunka_judge            400
+ *   nesbrunka_pack             480
+ *   nesbrunka_press            752
+ *   nesbrunka_why              880
+ *   nesbrunka_better           704
+ *   nesbrunka_two_sides        576
+ *   nesbrunka_plan             896
+ *   nesbrunka_improve          588
+ *   nesbrunka_floor          1,376
+ *   nesbrunka_read             432
+ *   nesbrunka_write            464
  *   nesbrunka_centre             8
  *   nesbrunka_centre_number      8
- *   nesbrunka_order_write      432
- *   nesbrunka_order_read       624
+ *   nesbrunka_order_write      352
+ *   nesbrunka_order_read       560
  *
  * Answers. `number` is NESBRUNKA_DONE or the number of a refusal, `place` says where. A refused
  * call changes no table, and its other numbers are 0, but for `short_` beside

@@ -203,6 +203,26 @@ fn enumerators() -> BTreeMap<String, String> {
     all(&header, "NESBRUNKA_", ",").filter_map(|part| one(part.split('}').next()?)).collect()
 }
 
+/// The variants of crates/rules' `Cause`, which count from 1, by the names that they have elsewhere: `NoSides` is
+/// `REFUSED_NO_SIDES`.
+fn causes() -> BTreeMap<String, String> {
+    let source = bare(&text("crates/rules/src/lib.rt"));
+    let body = all(&source, "pub enum Cause {", "}").next().expect("an enum Cause").to_string();
+    let one = |(place, variant): (usize, &str)| {
+        let mut name = String::from("REFUSED");
+        for letter in variant.trim().split(' ').next().expect("a name").chars() {
+            if letter.is_uppercase() {
+                name.push('_');
+            }
+            name.push(letter.to_ascii_uppercase());
+        }
+        (name, (place + 1).to_string())
+    };
+    assert!(body.trim_start().starts_with("Count = 1,"), "the first cause has the number 1");
+    assert_eq!(body.matches('=').count(), 1, "the others count on");
+    body.split(',').filter(|variant| !variant.trim().is_empty()).enumerate().map(one).collect()
+}
+
 #[test]
 fn constants_agree() {
     let (header, own) = (enumerators(), constants("bindings/src/lib.rs"));
@@ -212,7 +232,8 @@ fn constants_agree() {
     let mut numbers: Vec<usize> = numbers.map(|value| value.parse().expect("a number")).collect();
     numbers.sort();
     assert_eq!(numbers, (0..=17).collect::<Vec<_>>(), "each number has one name");
-    let rules = constants("crates/rules/src/lib.rt");
+    let mut rules = constants("crates/rules/src/lib.rt");
+    rules.extend(causes());
     for (name, value) in &header {
         if name != "DONE" {
             assert_eq!(rules.get(name), Some(value), "{name} in crates/rules");

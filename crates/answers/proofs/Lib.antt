@@ -1,1 +1,3 @@
-pub mod Answers
+pub mod Small
+pub mod Reasons
+pub mod Plans

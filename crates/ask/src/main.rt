@@ -12,6 +12,7 @@ ghost use Rattle.std.specs.Prelude.{IsTrue};
 ghost use Rattle.rules.specs.Asking.{asked};
 ghost use Rattle.console.specs.Made.{WroteFrom, WroteOf};
 
+use sheet::Tables;
 use std::io::{Read, Write};
 
 // Prints the answer. Where the input is the first 65,536 bytes of a sheet, it is the answer for that sheet.
@@ -26,22 +27,9 @@ fn respond<W: Write, E: Write>(
     ensures { IsTrue result → WroteFrom (asked count first.now second.now) input.now
         (W.contents out.old) (W.contents out.new) }
 {
-    let mut labels = [0u8; rules::LABELS];
-    let mut widths = [0u16; rules::PATHS];
-    let mut guards = [0u8; rules::CELLS];
-    let mut starts = [0u16; rules::PATHS];
+    let mut tables = Tables::new();
     let mut text = [0u8; asking::ANSWER_MOST];
-    let m = asking::answer(
-        count,
-        first,
-        second,
-        input,
-        &mut labels,
-        &mut widths,
-        &mut guards,
-        &mut starts,
-        &mut text,
-    );
+    let m = asking::answer(count, first, second, input, &mut tables, &mut text);
     console::print(out, errors, &text[..m], b"ask: standard output")
 }
 

@@ -7,6 +7,8 @@ ghost use Rattle.rules.specs.Plan.{net_of, highest};
 ghost use Rattle.rules.specs.Packing.{lowest, packed};
 ghost use Rattle.plan_laws.specs.Answers.{Packable};
 
+use network::Network;
+
 #[unsafe(no_mangle)]
 pub extern "C" fn bench_pack_into(
     n: usize,
@@ -22,5 +24,5 @@ pub extern "C" fn bench_pack_into(
         ≡ packed (lowest (net_of (lend widths.now guards.now)))
         (at order.now) starts.old n }
 {
-    engine::pack_into(n, widths, guards, order, starts)
+    engine::pack_into(&Network { n, widths, guards }, order, starts)
 }

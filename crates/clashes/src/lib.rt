@@ -1,136 +1,118 @@
 // An inner crate: the test 8, of a plan whose other tests have found no fault, with how many slots short the
-// pair is.
+// pair is; and the tests of a plan in their order.
 #![tactic(auto)]
 
-ghost use Rattle.std.specs.Prelude.{◌≡◌, true, false, ℕ, ◌+◌, ◌-◌, ◌≤◌, ◌<◌};
-ghost use Rattle.rules.specs.Tables.{at, cell, lend};
-ghost use Rattle.rules.specs.Limits.{Network, Starts};
-ghost use Rattle.rules.specs.Scan.{first};
-ghost use Rattle.rules.specs.Plan.{net_of, short, too_close};
-ghost use Rattle.rules.specs.declared.Fault.{Fault};
-ghost use Rattle.rules.specs.Numbers.{clash_fault};
+ghost use Rattle.std.specs.Prelude.{◌≡◌, false, ℕ, ◌+◌, ◌-◌, ◌≤◌, ◌<◌, IfOk};
+ghost use Rattle.rules.specs.Tables.{at, lend};
+ghost use Rattle.rules.specs.Plan.{net_of, too_close};
+ghost use Rattle.rules.specs.Numbers.{◌or_else◌, size_fault, lent_fault, start_fault, clash_fault};
+ghost use Rattle.rules.specs.Told.{told};
+ghost use Rattle.table_laws.specs.Firsts.{FirstIs};
 ghost use Rattle.plan_laws.specs.Clash.{pair_short, lack};
+ghost use Rattle.network.specs.Lent.{lent};
 
-use rules::Fault;
+use network::Plan;
+use rules::{Cause, Refusal};
 
 // End + guard + 1: the first slot past a path at s with width w and its guard g.
 pub fn past(s: u16, w: u16, g: u8) -> u16
-    requires { (1 ≤ w) × ((w ≤ 64) × (s ≤ 16384)) }
+    requires { (1 ≤ w) × (w ≤ 64) × (s ≤ 16384) }
     ensures { result ≡ s + w - 1 + g + 1 }
 {
-    s + w - 1 + (g as u16) + 1
-}
-
-// How far a slot is below another, 0 where it is not.
-pub fn below(slot: u16, other: u16) -> u16
-    ensures { result ≡ other - slot }
-{
-    if slot < other { other - slot } else { 0 }
+    s + w - 1 + u16::from(g) + 1
 }
 
 // How many slots short two paths with guard g are (RULES 4), at s with width w and at t with width v: the lower
 // start is asked, the first path's where they start together. 0 where they are not in conflict.
+#[tactic(auto, unfolding(plan_laws::specs::Clash::pair_short))]
 fn pair_short(g: u8, s: u16, w: u16, t: u16, v: u16) -> u16
-    requires { (1 ≤ w) × ((w ≤ 64) × ((1 ≤ v) × ((v ≤ 64) × ((s ≤ 16384) × (t ≤ 16384))))) }
+    requires { (1 ≤ w) × (w ≤ 64) × (1 ≤ v) × (v ≤ 64) × (s ≤ 16384) × (t ≤ 16384) }
     ensures { result ≡ pair_short g s w t v }
 {
     if rules::NO_CONFLICT <= g {
         return 0;
     }
     if t < s {
-        return below(s, past(t, v, g));
+        return past(t, v, g).saturating_sub(s);
     }
-    below(t, past(s, w, g))
+    past(s, w, g).saturating_sub(t)
 }
 
 // The same of paths i and j, i<j.
-fn cell_short(n: usize, i: usize, j: usize, widths: &[u16], guards: &[u8], starts: &[u16]) -> u16
-    requires { (i < j) × ((j < n) × (Network n (lend widths.now guards.now) × Starts n starts.now)) }
-    ensures { result ≡ lack (net_of (lend widths.now guards.now))
-        (at starts.now) i j }
+fn cell_short(plan: &Plan, i: usize, j: usize) -> u16
+    requires { (i < j) × (j < plan.now.net.n) }
+    ensures { result ≡ lack (net_of (lent plan.now.net)) (at plan.now.starts.now) i j }
 {
-    let g = guards[rules::PATHS * i + j];
-    pair_short(g, starts[i], widths[i], starts[j], widths[j])
-}
-
-// The first path past i that is too close to i, or n.
-fn close_search(n: usize, i: usize, widths: &[u16], guards: &[u8], starts: &[u16]) -> usize
-    requires { (i < n) × (Network n (lend widths.now guards.now) × Starts n starts.now) }
-    ensures { result ≡ first
-        (too_close (net_of (lend widths.now guards.now)) (at starts.now) i)
-        n }
-{
-    let mut j: usize = i + 1;
-    while j < n {
-        if cell_short(n, i, j, widths, guards, starts) != 0 {
-            return j;
-        }
-        j += 1;
-    }
-    n
+    let net = &plan.net;
+    pair_short(
+        net.guard(i, j),
+        plan.start(i),
+        net.width(i),
+        plan.start(j),
+        net.width(j),
+    )
 }
 
 // The most slots that a path past i is short, or 0: then none is too close to i. With no branch on a pair.
-fn row_short(n: usize, i: usize, widths: &[u16], guards: &[u8], starts: &[u16]) -> u16
-    requires { (i < n) × (Network n (lend widths.now guards.now) × Starts n starts.now) }
-    ensures { result ≡ 0 → (j : ℕ) → j < n → too_close
-        (net_of (lend widths.now guards.now)) (at starts.now) i j ≡ false }
+#[tactic(auto, using(plan_laws::specs::Clash::close_before, plan_laws::specs::Clash::lack_none))]
+fn row_short(plan: &Plan, i: usize) -> u16
+    requires { i < plan.now.net.n }
+    ensures { result ≡ 0 → (j : ℕ) → j < plan.now.net.n
+        → too_close (net_of (lent plan.now.net)) (at plan.now.starts.now) i j ≡ false }
 {
-    let mut most: u16 = 0;
-    let mut j: usize = i + 1;
-    while j < n {
-        let x = cell_short(n, i, j, widths, guards, starts);
-        most = engine::larger(most, x);
-        j += 1;
+    let mut most = 0;
+    for j in i + 1..plan.net.n {
+        most = cell_short(plan, i, j).max(most);
     }
     most
 }
 
-// The first path past i that is too close to i, or n.
-fn close_row(n: usize, i: usize, widths: &[u16], guards: &[u8], starts: &[u16]) -> usize
-    requires { (i < n) × (Network n (lend widths.now guards.now) × Starts n starts.now) }
-    ensures { result ≡ first
-        (too_close (net_of (lend widths.now guards.now)) (at starts.now) i)
-        n }
+// The first path past i that is too close to i.
+fn close_row(plan: &Plan, i: usize) -> Option<usize>
+    requires { i < plan.now.net.n }
+    ensures { FirstIs (too_close (net_of (lent plan.now.net)) (at plan.now.starts.now) i)
+        plan.now.net.n result }
 {
-    if row_short(n, i, widths, guards, starts) == 0 {
-        return n;
+    if row_short(plan, i) == 0 {
+        return None;
     }
-    close_search(n, i, widths, guards, starts)
+    (i + 1..plan.net.n).find(|&j| cell_short(plan, i, j) != 0)
 }
 
-// 8, of paths i and j, which are too close: their cell, and how many slots short they are.
-fn clash(n: usize, i: usize, j: usize, widths: &[u16], guards: &[u8], starts: &[u16]) -> Fault
-    requires { (i < j) × ((j < n) × (Network n (lend widths.now guards.now) × (Starts n starts.now
-        × (too_close (net_of (lend widths.now guards.now)) (at starts.now) i j ≡ true)))) }
-    ensures { result ≡ record {
-      number = 8;
-      place = cell i j;
-      short = short
-          (net_of (lend widths.now guards.now)) (at starts.now) i j;
-    } }
+// 8: the first pair that is too close, row by row above the diagonal: its cell, and how many slots short it is.
+pub fn check_clashes(plan: &Plan) -> Result<(), Refusal>
+    ensures { told result ≡ clash_fault plan.now.net.n (net_of (lent plan.now.net))
+        plan.now.starts.now }
 {
-    let x = cell_short(n, i, j, widths, guards, starts);
-    Fault {
-        number: rules::REFUSED_CLASH,
-        place: rules::PATHS * i + j,
-        short: x as usize,
+    match tables::first_cell(plan.net.n, |i| close_row(plan, i)) {
+        Some((i, j)) => Err(Refusal {
+            cause: Cause::Clash,
+            place: rules::PATHS * i + j,
+            short: usize::from(cell_short(plan, i, j)),
+        }),
+        None => Ok(()),
     }
 }
 
-// 8: the first pair that is too close, row by row above the diagonal.
-pub fn clash_fault(n: usize, widths: &[u16], guards: &[u8], starts: &[u16]) -> Fault
-    requires { Network n (lend widths.now guards.now) × Starts n starts.now }
-    ensures { result ≡ clash_fault n (net_of (lend widths.now guards.now))
-        starts.now }
+// The tests of a plan that is lent with its network: 2, 1, 3, 4, 5, 7, 8. `others` is 2 of the tables that are lent
+// before its starts.
+pub fn check_plan<'a>(
+    n: usize,
+    widths: &'a [u16],
+    guards: &'a [u8],
+    others: Result<(), Refusal>,
+    starts: &'a [u16],
+) -> Result<Plan<'a>, Refusal>
+    ensures number { told result
+        ≡ (lent_fault n (lend widths.now guards.now) (told others or_else size_fault starts.now 128)
+        or_else start_fault n starts.now or_else clash_fault n (net_of (lend widths.now guards.now)) starts.now) }
+    ensures plan { IfOk result (λ p. (p.net.n ≡ n)
+        × (lent p.net ≡ lend widths.now guards.now) × (p.starts.now ≡ starts.now)) }
 {
-    let mut i: usize = 0;
-    while i < n {
-        let j = close_row(n, i, widths, guards, starts);
-        if j < n {
-            return clash(n, i, j, widths, guards, starts);
-        }
-        i += 1;
-    }
-    tables::accepted()
+    let sizes = others.and(tables::check_size(starts.len(), rules::PATHS));
+    let net = tables::check_network(n, widths, guards, sizes)?;
+    tables::check_starts(n, starts)?;
+    let plan = Plan { net, starts };
+    check_clashes(&plan)?;
+    Ok(plan)
 }

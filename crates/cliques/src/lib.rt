@@ -1,124 +1,63 @@
 // An inner crate: the list of the floor, its test and its value, for the calls of planning.
 #![tactic(auto)]
 
-ghost use Rattle.std.specs.Prelude.{◌≡◌, ℕ, ◌+◌, ◌≤◌, ◌<◌, length};
-ghost use Rattle.rules.specs.Tables.{at, cell, Lent, lend};
-ghost use Rattle.rules.specs.Scan.{found, sum};
-ghost use Rattle.rules.specs.Plan.{net_of};
-ghost use Rattle.rules.specs.Numbers.{scan, bad_member, list_fault};
-ghost use Rattle.rules.specs.Floor.{floor as floorOf};
+ghost use Rattle.std.specs.Prelude.{◌≡◌, not, ◌||◌, ℕ, ◌≤◌, ◌<◌, eqb, length, All, sum_by};
+ghost use Rattle.rules.specs.Tables.{at};
+ghost use Rattle.rules.specs.Plan.{net_of, in_conflict};
+ghost use Rattle.rules.specs.Numbers.{bad_member, list_fault};
+ghost use Rattle.rules.specs.Told.{told};
+ghost use Rattle.rules.specs.Floor.{floor};
 ghost use Rattle.plan_laws.specs.Answers.{Floorable};
-ghost use Rattle.cliques.specs.Listed.{Listed, stranger};
+ghost use Rattle.network.specs.Lent.{lent};
 
-use rules::Fault;
+use network::Network;
+use rules::{Cause, LIST_MOST, NO_CONFLICT, Refusal};
+use walks::Square;
 
-// The path at a position of a list.
-fn path_at(list: &[u8], i: usize) -> usize
-    requires { i < length list.now }
-    ensures { result ≡ at list.now i }
+// Path j is path i once more, or not in conflict with it.
+fn is_stranger(net: &Network, i: usize, j: usize) -> bool
+    requires { (i < net.now.n) × (j < net.now.n) }
+    ensures { result ≡ (eqb i j || not (in_conflict (net_of (lent net.now)) i j)) }
 {
-    list[i] as usize
+    i == j || net.guard(i, j) == NO_CONFLICT
 }
 
-// The guard of the paths at two positions.
-fn guard_of(guards: &[u8], list: &[u8], i: usize, j: usize) -> u8
-    requires { (i < j) × Listed guards.now list.now (j + 1) }
-    ensures { result ≡ at guards.now
-        (cell (at list.now i) (at list.now j)) }
+// The entry at position k is no path, or such a stranger to those before it, which are paths.
+fn is_bad(net: &Network, list: &[u8], k: usize) -> bool
+    requires { (k < length list.now) × ((i : ℕ) → i < k → at list.now i < net.now.n) }
+    ensures { result ≡ bad_member net.now.n (net_of (lent net.now)) list.now k }
 {
-    let a = path_at(list, i);
-    let b = path_at(list, j);
-    guards[rules::PATHS * a + b]
+    let path = usize::from(list[k]);
+    net.n <= path || (0..k).any(|i| is_stranger(net, usize::from(list[i]), path))
 }
 
-// The path at j is that at i once more, or not in conflict with it.
-fn is_stranger(guards: &[u8], list: &[u8], i: usize, j: usize) -> bool
-    requires { (i < j) × Listed guards.now list.now (j + 1) }
-    ensures { result ≡ stranger guards.now list.now j i }
+// 15: the list is empty or over 8, place 0; or one of its entries is at fault, the first of them.
+pub fn check_list(net: &Network, list: &[u8]) -> Result<(), Refusal>
+    ensures { told result ≡ list_fault net.now.n (net_of (lent net.now)) list.now }
 {
-    if path_at(list, i) == path_at(list, j) {
-        return true;
-    }
-    let g = guard_of(guards, list, i, j);
-    rules::NO_CONFLICT <= g
-}
-
-// The same, of the path at j and any before it.
-fn has_stranger(guards: &[u8], list: &[u8], j: usize) -> bool
-    requires { Listed guards.now list.now (j + 1) }
-    ensures { result ≡ found (stranger guards.now list.now j) j }
-{
-    let mut i: usize = 0;
-    while i < j {
-        if is_stranger(guards, list, i, j) {
-            return true;
+    tables::refuse_if(!(1..=LIST_MOST).contains(&list.len()), Cause::List)?;
+    for k in 0..list.len() {
+        if is_bad(net, list, k) {
+            return Err(Refusal::at(Cause::List, k));
         }
-        i += 1;
     }
-    false
+    Ok(())
 }
 
-// 15, past the length: the first position whose entry is no path, or such a stranger to those before it.
-fn member_fault(n: usize, guards: &[u8], list: &[u8]) -> Fault
-    requires { (n ≤ 128) × (length guards.now ≡ 16384) }
-    ensures { (lent : Lent) → lent.guards ≡ guards.now → result
-        ≡ scan 15 (bad_member n (net_of lent) list.now) (length list.now) }
+// The widths of the paths of a list, added.
+fn widths_added(net: &Network, list: &[u8]) -> usize
+    requires { (length list.now ≤ 8) × All (λ k. k < net.now.n) list.now }
+    ensures { result ≡ sum_by (at net.now.widths.now) list.now }
 {
-    let mut k: usize = 0;
-    while k < list.len() {
-        if n <= path_at(list, k) {
-            return tables::refused(rules::REFUSED_LIST, k);
-        }
-        if has_stranger(guards, list, k) {
-            return tables::refused(rules::REFUSED_LIST, k);
-        }
-        k += 1;
-    }
-    tables::accepted()
-}
-
-// 15: the list is empty or over 8, place 0; or one of its entries is at fault.
-pub fn list_fault(n: usize, guards: &[u8], list: &[u8]) -> Fault
-    requires { (n ≤ 128) × (length guards.now ≡ 16384) }
-    ensures { (lent : Lent) → lent.guards ≡ guards.now → result
-        ≡ list_fault n (net_of lent) list.now }
-{
-    if list.len() < 1 {
-        return tables::refused(rules::REFUSED_LIST, 0);
-    }
-    if rules::LIST_MOST < list.len() {
-        return tables::refused(rules::REFUSED_LIST, 0);
-    }
-    member_fault(n, guards, list)
-}
-
-// The widths of the paths of the list, added.
-fn widths_added(widths: &[u16], list: &[u8]) -> usize
-    requires { (length widths.now ≡ 128)
-        × ((length list.now ≤ 8)
-        × ((i : ℕ) → i < length list.now → (at list.now i < 128)
-        × (at widths.now (at list.now i) ≤ 64))) }
-    ensures { (result ≡ sum (λ i. at widths.now (at list.now i))
-        (length list.now)) × (result ≤ 512) }
-{
-    let mut w: usize = 0;
-    let mut i: usize = 0;
-    while i < list.len() {
-        let k = path_at(list, i);
-        w += widths[k] as usize;
-        i += 1;
-    }
-    w
+    list.iter()
+        .map(|k| usize::from(net.width(usize::from(*k))))
+        .sum()
 }
 
 // The floor of a list that the tests have accepted: its widths added, and the shortest walk through it.
-pub fn floor_of(widths: &[u16], guards: &[u8], list: &[u8]) -> usize
-    requires { (n : ℕ) × Floorable n (lend widths.now guards.now) list.now }
-    ensures { result ≡ floorOf (net_of (lend widths.now guards.now))
-        (at list.now) (length list.now) }
+pub fn floor_of(net: &Network, list: &[u8]) -> usize
+    requires { Floorable net.now.n (lent net.now) list.now }
+    ensures { result ≡ floor (net_of (lent net.now)) (at list.now) (length list.now) }
 {
-    let w = widths_added(widths, list);
-    let square = walks::square_of(guards, list);
-    let g = walks::shortest(&square, list.len());
-    w + (g as usize)
+    widths_added(net, list) + usize::from(Square::of(net, list).shortest())
 }

@@ -1,63 +1,35 @@
 -- Bytes that came, put after those that a text has, as far as there is room. Assumes nothing.
-use Prim.Native.Nat.{ℕ, ◌+◌, ◌-◌, ◌≤◌, ◌<◌}
+use Prim.Native.Nat.{ℕ, ◌+◌, ◌-◌, ◌≤◌}
 use mathlib.Core.Path.{◌≡◌, refl, sym, ap, ◌∙◌}
-use mathlib.Core.List.{List, [], ◌∷◌, ◌++◌}
-use lib.ListN.{length, set, take, drop, length-take, length-set}
-use lib.Seq.{sets, sets-eq, get_or-take, take-append_seam}
+use mathlib.Core.List.{List, [], ◌++◌}
+use borrow.Rule.Slice.PartMut.{put_mid}
+use lib.ListN.{length, take, drop, length-take}
+use lib.Seq.{sets, sets-eq, length-sets, take-append_seam}
 use native.Mathlib.Omega.{arith}
 use Rattle.std.proofs.Common.{Option}
-use Rattle.std.proofs.Common.{inl, inr, append-nil}
+use Rattle.std.proofs.Common.{inl, inr, append-nil, append_assoc}
+use Rattle.std.proofs.lemmas.Grind.{common_steps}
 use Rattle.std.proofs.lemmas.Bool.{cases_lt}
-use Rattle.std.proofs.lemmas.List.{take_all, take-append-le}
+use Rattle.std.proofs.lemmas.List.{take_all, take_min, take-append-le}
 use Rattle.std.proofs.Math.Seq.{take-append-add}
 use Rattle.std.proofs.KnownBytes.{Consumes-trans, Consumes-kept}
 use Rattle.std.specs.Io.KnownBytes.{Consumes, Keeps}
-use Rattle.rules.specs.Tables.{at}
-use Rattle.sheet_laws.specs.Texts.{here, past}
-use Rattle.sheet_laws.specs.Writes.{byte, both_pieces}
+use Rattle.sheet_laws.specs.Writes.{both_pieces}
 use Rattle.console.specs.Kept.{room, Kept, Came, Took}
 
--- j bytes are put; the rest is still to be
-pub record Keeping (text₀ : List ℕ) (have : ℕ) (came text : List ℕ) (k j : ℕ) : Type 0 where
-  pub same : length text ≡ length text₀
-  pub within : k ≤ length text₀
-  pub place : k ≡ have + j
-  pub work : sets text k (drop j (room text₀ have came)) ≡ sets text₀ have (room text₀ have came)
-  pub long : k + length (drop j (room text₀ have came)) ≡ have + length (room text₀ have came)
+-- a part that was copied into a text
+copied : (w l : List ℕ) (i k : ℕ) → k ≡ length w → i + length w ≤ length l → put_mid i k l w ≡ sets l i w
+copied w l i k e h = grind (arith, common_steps, sets-eq w l i h, append_assoc)
 
-pub keep_first : (text came : List ℕ) (have : ℕ) → have ≤ length text → Keeping text have came text have 0
-keep_first text came have h = record { same = refl; within = h; place = omega arith; work = refl; long = refl }
-
-module _ (text₀ came text : List ℕ) (have k j : ℕ) (s : Keeping text₀ have came text k j) where
-  pub keep_more : k < length text → j < length came → Keeping text₀ have came (set text k (at came j)) (k + 1) (j + 1)
-  keep_more g h =
-      let w = room text₀ have came in
-      let l : j < length w = omega (arith, length-take (length text₀ - have) came, s.same, s.place) in
-      let x : at w j ≡ at came j = get_or-take (length text₀ - have) came j 0 (omega (arith, s.same, s.place)) in
-      let e : drop j w ≡ at came j ∷ drop (j + 1) w = here w j l ∙ ap (λ (y : ℕ). y ∷ drop (j + 1) w) x in
-      let b = byte text (set text k (at came j)) k (k + 1) (at came j) (drop (j + 1) w) refl refl in
-      record {
-        same = length-set text k (at came j) ∙ s.same;
-        within = omega (arith, s.same);
-        place = omega (arith, s.place);
-        work = b.0 ∙ sym (ap (λ (v : List ℕ). sets text k v) e) ∙ s.work;
-        long = omega (arith, b.1, ap length e, s.long);
-      }
-
-  end : length (room text₀ have came) ≤ j → Kept text₀ have came k text
-  end h =
-      let e = past (room text₀ have came) j h in
-      record {
-        within = omega (arith, s.same, s.within);
-        place = omega (arith, ap length e, s.long);
-        bytes = sym (ap (λ (v : List ℕ). sets text k v) e) ∙ s.work;
-      }
-
-  pub keep_full : length text ≤ k → Kept text₀ have came k text
-  keep_full h = end (omega (arith, length-take (length text₀ - have) came, s.same, s.place))
-
-  pub keep_end : length came ≤ j → Kept text₀ have came k text
-  keep_end h = end (omega (arith, length-take (length text₀ - have) came))
+-- as many of the bytes that came as there is room for
+pub kept : (text came : List ℕ) (have n : ℕ) → have ≤ length text → n ≡ length (room text have came)
+    → Kept text have came (have + n) (put_mid have (have + n - have) text (take n came))
+kept text came have n h e =
+    let l = length-take (length text - have) came in
+    let t : take n came ≡ room text have came = rw (e, l) (take_min (length text - have) came) in
+    let s : put_mid have (have + n - have) text (take n came) ≡ sets text have (room text have came)
+    = rw t (copied (room text have came) text have (have + n - have) (omega arith) (omega arith)) in
+    record { within = omega (arith, ap length s, length-sets text have (room text have came)); place = rw e refl; bytes = s }
 
 -- what was written into a text at its front
 pub front : (out after w : List ℕ) (r : ℕ) → (r ≡ 0 + length w) × (after ≡ sets out 0 w) → length w ≤ length out → take r after ≡ w
@@ -65,10 +37,6 @@ front out after w r h l =
     let e : r ≡ length w = omega (arith, h.0) in
     let v : after ≡ w ++ drop (length w) out = h.1 ∙ sets-eq w out 0 (omega arith) ∙ ap (λ (k : ℕ). w ++ drop k out) (let g : 0 + length w ≡ length w = omega arith in g) in
     rw (e, v) (take-append_seam w (drop (length w) out))
-
--- none came; more came
-pub none_came : (text : List ℕ) → Came text 0 text
-none_came text = record { within = omega arith; front = refl; rest = refl }
 
 -- what a text has once more came: that which it had, and then what there was room for
 front_more : (text₀ text text' came : List ℕ) (have r : ℕ) → Came text₀ have text → Kept text have came r text' → length text' ≡ length text₀

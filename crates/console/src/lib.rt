@@ -7,29 +7,25 @@
 // (examples/check).
 #![tactic(auto)]
 
-ghost use Rattle.std.specs.Prelude.{◌≡◌, ◌≤◌, ◌<◌, length, take, IfSome, IsNone, IsTrue, ◌↔◌};
+ghost use Rattle.std.specs.Prelude.{◌≡◌, ◌+◌, ◌≤◌, ◌<◌, length, take, IfSome, IsNone, IsTrue, ◌↔◌};
 ghost use Rattle.std.specs.Io.KnownBytes.{Appends, IsAtEnd};
 ghost use Rattle.rules.specs.Program.{refusal_text};
+ghost use Rattle.rules.specs.Told.{refused};
 ghost use Rattle.spelling.specs.Says.{Wrote};
 ghost use Rattle.console.specs.Failed.{IsLasting};
 ghost use Rattle.console.specs.Kept.{Kept, Came, Took};
 
+use rules::Refusal;
+use spelling::{Pen, Sink};
 use std::env::{Env, FillError};
 use std::io::{Cursor, Error, ErrorKind, Read, Write};
 use std::thread::yield_now;
 
-// What came of an input: how many bytes of the text are from it; and why it was not read to its end, where it was not.
+// What a call after another has moved: how many bytes, from the first on; and why the last call failed, where it did.
+// The two stand beside each other: the bytes count where a call failed too, so no Result says this.
 #[derive(Drop)]
-pub struct Input {
+pub struct Moved {
     pub length: usize,
-    pub failure: Option<Error>,
-}
-
-// What went out: how many bytes, from the first on; and why the last call failed, where it did. Where it did not, and
-// bytes are left, it took none.
-#[derive(Drop)]
-pub struct Written {
-    pub count: usize,
     pub failure: Option<Error>,
 }
 
@@ -39,17 +35,10 @@ fn keep(text: &mut [u8], have: usize, came: &[u8]) -> usize
     requires { have ≤ length text.old }
     ensures { Kept text.old have came.now result text.new }
 {
-    let mut k = have;
-    let mut j = 0;
-    while j < came.len() {
-        if text.len() <= k {
-            return k;
-        }
-        text[k] = came[j];
-        k += 1;
-        j += 1;
-    }
-    k
+    let count = came.len().min(text.len() - have);
+    let end = have + count;
+    text[have..end].copy_from_slice(&came[..count]);
+    end
 }
 
 // Whether a call has failed for good. One that was interrupted, or that would have had to wait, is tried
@@ -69,93 +58,89 @@ fn has_failed(error: &Error) -> bool
 // and dropped. A read that fails is not the end. A proved loop has to end, so this one counts its turns, up to a number
 // that no run uses up. Promised: the text past the length answered is as it was, and before it has the first bytes
 // that the reader gave, which are all that it had where nothing failed.
-pub fn read_all<R: Read>(input: &mut R, text: &mut [u8]) -> Input
+pub fn read_all<R: Read>(input: &mut R, text: &mut [u8]) -> Moved
     ensures came { Came text.old result.length text.new }
     ensures took { Took (R.remaining input.old) (R.remaining input.new) result.length text.new }
     ensures end { IsNone result.failure → IsAtEnd (R.remaining input.new) }
     ensures lasting { IfSome result.failure IsLasting }
 {
-    let mut have: usize = 0;
+    let mut length = 0;
+    let mut piece = [0u8; 4096];
     'turns: for _ in 0..u64::MAX {
-        let mut piece = [0u8; 4096];
         match input.read(&mut piece) {
             Ok(0) => {
-                return Input {
-                    length: have,
+                return Moved {
+                    length,
                     failure: None,
                 };
             }
-            Ok(n) => have = keep(text, have, &piece[..n]),
-            Err(error) => {
-                if has_failed(&error) {
-                    return Input {
-                        length: have,
-                        failure: Some(error),
-                    };
-                }
+            Ok(n) => length = keep(text, length, &piece[..n]),
+            Err(error) if has_failed(&error) => {
+                return Moved {
+                    length,
+                    failure: Some(error),
+                };
             }
+            Err(_) => {}
         }
     }
-    Input {
-        length: have,
+    Moved {
+        length,
         failure: Some(Error::from(ErrorKind::TimedOut)),
     }
 }
 
 // Writes bytes until all are taken, a write takes none, or a write fails. Each call is handed those that are
-// left. Promised: the writer took so many of the bytes, from the first on, each once and in order.
-pub fn write<W: Write>(out: &mut W, bytes: &[u8]) -> Written
-    ensures within { result.count ≤ length bytes.now }
-    ensures wrote { Appends (W.contents out.old) (W.contents out.new) (take result.count bytes.now) }
+// left. Promised: the writer took so many of the bytes, from the first on, each once and in order. Where nothing failed
+// and bytes are left, the last call took none.
+pub fn write<W: Write>(out: &mut W, bytes: &[u8]) -> Moved
+    ensures within { result.length ≤ length bytes.now }
+    ensures wrote { Appends (W.contents out.old) (W.contents out.new) (take result.length bytes.now) }
     ensures lasting { IfSome result.failure IsLasting }
 {
-    let mut done: usize = 0;
+    let mut length = 0;
     'turns: for _ in 0..u64::MAX {
-        let rest = &bytes[done..];
-        if rest.len() == 0 {
-            return Written {
-                count: done,
+        let rest = &bytes[length..];
+        if rest.is_empty() {
+            return Moved {
+                length,
                 failure: None,
             };
         }
         match out.write(rest) {
             Ok(0) => {
-                return Written {
-                    count: done,
+                return Moved {
+                    length,
                     failure: None,
                 };
             }
-            Ok(n) => done += n,
-            Err(error) => {
-                if has_failed(&error) {
-                    return Written {
-                        count: done,
-                        failure: Some(error),
-                    };
-                }
+            Ok(n) => length += n,
+            Err(error) if has_failed(&error) => {
+                return Moved {
+                    length,
+                    failure: Some(error),
+                };
             }
+            Err(_) => {}
         }
     }
-    Written {
-        count: done,
+    Moved {
+        length,
         failure: Some(Error::from(ErrorKind::TimedOut)),
     }
 }
 
 // Tells one line.
 pub fn tell<E: Write>(errors: &mut E, about: &[u8], why: &[u8]) {
-    write(errors, about);
-    write(errors, b": ");
-    write(errors, why);
-    write(errors, b"\n");
+    for part in [about, b": ", why, b"\n"] {
+        write(errors, part);
+    }
 }
 
 // The words for an error: those of the system alone, which std puts before the error's number.
 fn words(text: &str) -> &str {
-    match text.rsplit_once(" (os error ") {
-        Some((words, _)) => words,
-        None => text,
-    }
+    text.rsplit_once(" (os error ")
+        .map_or(text, |(words, _)| words)
 }
 
 // Tells why a call failed.
@@ -169,11 +154,11 @@ pub fn fail<E: Write>(errors: &mut E, about: &[u8], error: Error) {
 }
 
 // Whether bytes were written whole. Where they were not, it is told.
-fn is_whole<E: Write>(errors: &mut E, written: Written, bytes: &[u8], about: &[u8]) -> bool
-    ensures value { IsTrue result ↔ (written.count ≡ length bytes.now) }
+fn is_whole<E: Write>(errors: &mut E, written: Moved, bytes: &[u8], about: &[u8]) -> bool
+    ensures value { IsTrue result ↔ (written.length ≡ length bytes.now) }
     ensures silent { IsTrue result → errors.new ≡ errors.old }
 {
-    if written.count == bytes.len() {
+    if written.length == bytes.len() {
         return true;
     }
     match written.failure {
@@ -202,42 +187,43 @@ pub fn note<E: Write>(errors: &mut E, bytes: &[u8], about: &[u8]) -> bool
 
 // How many arguments follow the program's own name.
 pub fn arguments(rt: &HostRuntime) -> usize {
-    for place in 1..usize::MAX {
-        if !is_given(rt, place) {
-            return place - 1;
-        }
-    }
-    usize::MAX - 1
+    (1..usize::MAX)
+        .take_while(|place| is_given(rt, *place))
+        .count()
 }
 
 fn is_given(rt: &HostRuntime, place: usize) -> bool {
-    let mut room = [0u8; 1];
-    match rt.arg(place, &mut room) {
-        Err(FillError::NotPresent) => false,
-        Err(FillError::TooLong) => true,
-        Ok(_) => true,
-    }
+    !matches!(rt.arg(place, &mut [0u8; 1]), Err(FillError::NotPresent))
 }
 
 // Puts an argument at the start of a text, and answers its length: 0 where it is missing, or there is no room for it.
 pub fn argument(rt: &HostRuntime, place: usize, text: &mut [u8]) -> usize
     ensures { result ≤ length text.new }
 {
-    match rt.arg(place, text) {
-        Ok(count) => count,
-        Err(_) => 0,
-    }
+    rt.arg(place, text).unwrap_or(0)
 }
 
-// The one line of a refusal: the number, then the line.
-pub fn refuse(out: &mut [u8], number: usize, line: usize) -> usize
-    requires { (number < 100000) × (line < 100000) × (25 ≤ length out.old) }
-    ensures wrote { Wrote out.old 0 (refusal_text number line) result out.new }
+// Puts the one line of a refusal: the number, then the line, which is its place.
+#[tactic(auto, using(crate::proofs::Refusal::number_few))]
+fn put_refusal<S: Sink>(sink: &mut S, refusal: &Refusal)
+    requires { (refusal.now.place < 100000) × (25 ≤ S.room sink.old) }
+    ensures wrote { S.takes sink.old
+        (refusal_text (refused refusal.now).number refusal.now.place) sink.new }
+    ensures upper_bound { S.room sink.old ≤ S.room sink.new + 25 }
+{
+    phrases::put_part(sink, b"refused ", refusal.cause.number());
+    phrases::put_part(sink, b" line ", refusal.place);
+    sink.put_word(b"\n");
+}
+
+// The one line of a refusal, at the start of a text. Answers its length.
+pub fn refuse(out: &mut [u8], refusal: &Refusal) -> usize
+    requires { (refusal.now.place < 100000) × (25 ≤ length out.old) }
+    ensures wrote { Wrote out.old 0
+        (refusal_text (refused refusal.now).number refusal.now.place) result out.new }
     ensures upper_bound { result ≤ 25 }
 {
-    let p = spelling::put_word(out, 0, b"refused ");
-    let q = spelling::put_number(out, p, number);
-    let e = spelling::put_word(out, q, b" line ");
-    let f = spelling::put_number(out, e, line);
-    spelling::put_word(out, f, b"\n")
+    let mut pen = Pen::new(out);
+    put_refusal(&mut pen, refusal);
+    pen.place()
 }

@@ -3,28 +3,26 @@
 #![tactic(auto)]
 
 ghost use Rattle.std.specs.Prelude.{◌≡◌, List, ℕ, length};
-ghost use Rattle.rules.specs.Tables.{lend};
 ghost use Rattle.rules.specs.Plan.{net_of};
 ghost use Rattle.rules.specs.Packing.{lowest};
-ghost use Rattle.rules.specs.Limits.{Network};
 ghost use Rattle.rules.specs.Planning.{greedy};
+ghost use Rattle.network.specs.Lent.{lent};
+
+use network::Network;
 
 // The engine's table of lowest starts is the key: each next path is the one of the lowest start, ties to the
-// lowest number, and a path that is in the order has a key above all starts.
-pub fn greedy_order(n: usize, widths: &[u16], guards: &[u8], order: &mut [u8])
-    requires { Network n (lend widths.now guards.now) × (length order.old ≡ 128) }
+// lowest number, and a path that is in the order has a key above all starts. The network is copied as for packing.
+pub fn greedy_order(net: &Network, order: &mut [u8])
+    requires { length order.old ≡ 128 }
     ensures { (table : List ℕ) → length table ≡ 128 → order.new
-        ≡ greedy (lowest (net_of (lend widths.now guards.now))) n table
-        order.old n }
+        ≡ greedy (lowest (net_of (lent net.now))) net.now.n table order.old net.now.n }
 {
-    let mut need = [0u16; rules::PATHS];
-    engine::lowest_starts(n, &mut need);
-    let mut m: usize = 0;
-    while m < n {
-        let c = engine::least_key(n, &need);
-        engine::place(n, c, widths[c], guards, &mut need);
+    let net = *net;
+    let mut need = [engine::LOWEST; rules::PATHS];
+    for m in 0..net.n {
+        let c = engine::least_key(net.n, &need);
+        engine::place(&net, c, net.width(c), &mut need);
         order[m] = c as u8;
         need[c] = engine::TAKEN;
-        m += 1;
     }
 }

@@ -1,4 +1,3 @@
 pub mod Tests
 pub mod Anchors
-pub mod Starts
 pub mod Centres

@@ -1,16 +1,17 @@
 // The grid of ITU-T G.694.1 (RULES 27): n of a block, the start that n gives, and the two public calls `centre` and
 // `centre_number`. Signed numbers stand in these calls alone: behind them a number is counted from -100,000, as `text`
-// reads it.
+// reads it and as the laws on the rules' texts (`sheet_laws`) count it.
 #![tactic(auto)]
 
-ghost use Rattle.std.specs.Prelude.{◌≡◌, ◌≤◌, ◌<◌, pos};
+ghost use Rattle.std.specs.Prelude.{◌≡◌, ◌≤◌, ◌<◌, pos, IfSome, unwrap_or};
 ghost use Rattle.rules.specs.Grid.{grid_number, grid_start, quarters};
-ghost use Rattle.rules.specs.Numbers.{anchor_fault};
+ghost use Rattle.rules.specs.Numbers.{anchor_fault, centre_fault};
 ghost use Rattle.rules.specs.Calls.{centring, centre_number};
+ghost use Rattle.rules.specs.Told.{told};
 ghost use Rattle.sheet_laws.specs.Grid.{lowered};
 ghost use Rattle.grid.specs.Block.{block_fault};
 
-use rules::Fault;
+use rules::{Cause, Refusal};
 
 const ANCHOR_LEAST: i32 = -1024;
 
@@ -24,16 +25,13 @@ const STEP: usize = 25;
 const BELOW: usize = 1727600;
 
 // 17: an anchor outside -1,024 to 1,024.
-pub fn anchor_fault(anchor: i32) -> Fault
-    ensures { result ≡ anchor_fault anchor }
+pub fn check_anchor(anchor: i32) -> Result<(), Refusal>
+    ensures { told result ≡ anchor_fault anchor }
 {
-    if anchor < ANCHOR_LEAST {
-        return tables::refused(rules::REFUSED_ANCHOR, 0);
-    }
-    if anchor > rules::ANCHOR_MOST {
-        return tables::refused(rules::REFUSED_ANCHOR, 0);
-    }
-    tables::accepted()
+    tables::refuse_if(
+        !(ANCHOR_LEAST..=rules::ANCHOR_MOST).contains(&anchor),
+        Cause::Anchor,
+    )
 }
 
 // An anchor that is not refused, counted from -100,000.
@@ -60,54 +58,41 @@ pub fn number(anchor: usize, start: usize, width: usize) -> usize
     anchor + (2 * (start - 1) + width)
 }
 
-// The start that n gives a block of a width: a whole one of 1 to 16,384, or 0 for none.
-pub fn start_of(anchor: usize, width: usize, n: usize) -> usize
+// The start that n gives a block of a width, where it gives one: a whole one of 1 to 16,384.
+pub fn start_of(anchor: usize, width: usize, n: usize) -> Option<usize>
     requires { (anchor ≤ 101024) × (width ≤ 65535) × (n < 200000) }
-    ensures { (result ≡ grid_start (lowered anchor) width (lowered n)) × (result ≤ 16384) }
+    ensures value { unwrap_or result 0 ≡ grid_start (lowered anchor) width (lowered n) }
+    ensures within { IfSome result (λ start. (1 ≤ start) × (start ≤ 16384)) }
 {
-    let first = anchor + width;
-    if n < first {
-        return 0;
-    }
-    let steps = n - first;
-    if steps % 2 != 0 {
-        return 0;
-    }
+    let steps = n.checked_sub(anchor + width)?;
     let slots = steps / 2;
-    if START_MOST <= slots {
-        return 0;
-    }
-    slots + 1
+    (steps % 2 == 0 && slots < START_MOST).then_some(slots + 1)
 }
 
-// 3 of a width, then 7 of a start; and 0.
-fn block_number(start: usize, width: usize) -> usize
-    ensures { result ≡ (block_fault start width).number }
+// 3 of a width, then 7 of a start.
+fn check_block(start: usize, width: usize) -> Result<(), Refusal>
+    ensures { told result ≡ block_fault start width }
 {
-    if width < 1 {
-        return rules::REFUSED_WIDTH;
-    }
-    if WIDTH_MOST < width {
-        return rules::REFUSED_WIDTH;
-    }
-    if start < 1 {
-        return rules::REFUSED_START;
-    }
-    if START_MOST < start {
-        return rules::REFUSED_START;
-    }
-    0
+    tables::refuse_if(!(1..=WIDTH_MOST).contains(&width), Cause::Width)?;
+    tables::refuse_if(!(1..=START_MOST).contains(&start), Cause::Start)
+}
+
+// 17, 3, 7: what both calls of the centre test.
+fn check_centre(anchor: i32, start: usize, width: usize) -> Result<(), Refusal>
+    ensures { told result ≡ centre_fault anchor start width }
+{
+    check_anchor(anchor)?;
+    check_block(start, width)
 }
 
 // The number of a call of `centre`: 17, 3, 7 or 0.
 pub fn centre_number(anchor: i32, start: usize, width: usize) -> usize
     ensures { result ≡ centre_number anchor start width }
 {
-    let fault = anchor_fault(anchor);
-    if fault.number != 0 {
-        return fault.number;
+    match check_centre(anchor, start, width) {
+        Ok(()) => 0,
+        Err(refusal) => refusal.cause.number(),
     }
-    block_number(start, width)
 }
 
 // The centre that n names, in quarters of a GHz.
@@ -122,9 +107,8 @@ fn in_quarters(n: usize) -> u32
 pub fn centre(anchor: i32, start: usize, width: usize) -> f64
     ensures { result ≡ centring anchor start width }
 {
-    if centre_number(anchor, start, width) != 0 {
-        return 0.0;
+    match check_centre(anchor, start, width) {
+        Ok(()) => f64::from(in_quarters(number(counted(anchor), start, width))) * 0.25,
+        Err(_) => 0.0,
     }
-    let n = number(counted(anchor), start, width);
-    in_quarters(n) as f64 * 0.25
 }

@@ -1,117 +1,95 @@
-// An inner crate, for the readers and writers of sheets: the table of labels, eight bytes a path, and the
-// keys that labels are compared by.
+// An inner crate, for the readers and writers of sheets: the table of labels, eight bytes a path, and the keys that
+// labels are compared by.
 #![tactic(auto)]
 
-ghost use Rattle.std.specs.Prelude.{◌≡◌, false, ◌+◌, ◌*◌, ◌≤◌, ◌<◌, min, length, eqb};
-ghost use Rattle.rules.specs.Tables.{at};
-ghost use Rattle.rules.specs.Scan.{first};
-ghost use Rattle.rules.specs.Sheet.{is_row, find, put_row};
+ghost use Rattle.std.specs.Prelude.{◌≡◌, ◌+◌, ◌*◌, ◌≤◌, ◌<◌, List, ℕ, take, drop, length, unwrap_or};
+ghost use Rattle.rules.specs.Sheet.{is_row, find, bytes_from, put_row};
 ghost use Rattle.rules.specs.Writing.{label_of, bad_label, label_twice};
-ghost use Rattle.text.specs.Says.{part};
-ghost use Rattle.labels.specs.Keys.{key_of, row_key};
+ghost use Rattle.table_laws.specs.Firsts.{FirstIs};
+ghost use Rattle.labels.specs.Keys.{Bytes, key_of};
 
-// Byte j of the label between two places, and 0 past its end.
-fn label_byte(text: &[u8], place: usize, end: usize, j: usize) -> u8
-    requires { (place ≤ end) × (end ≤ length text.now) }
-    ensures { result ≡ at (part text.now place end) j }
-{
-    if j < end - place { text[place + j] } else { 0 }
-}
+// So many rows are compared with a key before it is asked whether one of them has it, with no branch on a row, so that
+// the compiler makes vector code of it.
+const AT_ONCE: usize = 8;
 
-// The eight bytes of the label between two places as one number, the first of them lowest: one test then compares
-// all of them.
-fn label_key(text: &[u8], place: usize, end: usize) -> usize
-    requires { (place ≤ end) × (end ≤ length text.now) }
-    ensures { result ≡ key_of (at (part text.now place end)) }
-{
-    let mut key: usize = 0;
-    let mut j = rules::LABEL;
-    while 0 < j {
-        j -= 1;
-        let byte = label_byte(text, place, end, j);
-        key = 256 * key + byte as usize;
-    }
-    key
-}
-
-// The key of path k's label. A row has all of its eight bytes, so that it is read at one go.
-fn row_key(labels: &[u8], k: usize) -> usize
+// Path k's row.
+fn row(labels: &[u8], k: usize) -> &[u8; rules::LABEL]
     requires { 8 * k + 8 ≤ length labels.now }
-    ensures { result ≡ row_key labels.now k }
+    ensures { result.now ≡ take 8 (drop (8 * k) labels.now) }
 {
-    let row = rules::LABEL * k;
-    label_key(labels, row, row + rules::LABEL)
+    &labels.as_chunks::<{ rules::LABEL }>().0[k]
 }
 
-// Whether path k's label is the one between two places.
-pub fn is_row(labels: &[u8], k: usize, text: &[u8], place: usize, end: usize) -> bool
-    requires { (8 * k + 8 ≤ length labels.now) × (place ≤ end) × (end ≤ length text.now) }
-    ensures { result ≡ is_row labels.now (part text.now place end) k }
+// The eight bytes of a row that holds a label: zeros after it.
+fn filled(name: &[u8]) -> [u8; rules::LABEL]
+    ensures { result ≡ bytes_from 8 0 name.now }
 {
-    row_key(labels, k) == label_key(text, place, end)
+    let mut bytes = [0; rules::LABEL];
+    let m = name.len().min(rules::LABEL);
+    bytes[..m].copy_from_slice(&name[..m]);
+    bytes
 }
 
-// So many rows are compared with a key before it is asked again whether rows are left.
-const AT_ONCE: usize = 4;
-
-// The first of the four rows from path k's on that has a key, or 4.
-fn first_of_four(labels: &[u8], k: usize, key: usize) -> usize
-    requires { 8 * k + 32 ≤ length labels.now }
-    ensures { result ≡ first (λ i. eqb (row_key labels.now (k + i)) key) 4 }
+// Eight bytes as one number: one test then compares all of them.
+#[tactic(auto, unfolding(crate::specs::Keys::key_of))]
+fn key(name: &[u8]) -> u64
+    ensures { result ≡ key_of name.now }
 {
-    let mut i = 0;
-    while i < AT_ONCE {
-        if row_key(labels, k + i) == key {
-            return i;
-        }
-        i += 1;
-    }
-    i
+    u64::from_le_bytes(filled(name))
 }
 
-// The lower of two.
-fn lower(a: usize, b: usize) -> usize
-    ensures { result ≡ min a b }
+// Whether path k's label is the one that has a key.
+fn has_key(labels: &[u8], k: usize, key: u64) -> bool
+    requires { 8 * k + 8 ≤ length labels.now }
+    ensures { (w : List ℕ) → Bytes w → key ≡ key_of w → result ≡ is_row labels.now w k }
 {
-    if a < b { a } else { b }
+    u64::from_le_bytes(*row(labels, k)) == key
 }
 
-// The first of n rows that has a key, or n. The last four may reach past the n-th row, and what is past it is no
-// path's.
-fn first_row(labels: &[u8], n: usize, key: usize) -> usize
+// Whether path k's label is a name.
+pub fn is_row(labels: &[u8], k: usize, name: &[u8]) -> bool
+    requires { 8 * k + 8 ≤ length labels.now }
+    ensures { result ≡ is_row labels.now name.now k }
+{
+    has_key(labels, k, key(name))
+}
+
+// The path among the first n whose label is a name. The last eight rows may reach past the n-th, and what is past it is
+// no path's.
+pub fn find(labels: &[u8], n: usize, name: &[u8]) -> Option<usize>
     requires { (n ≤ 128) × (length labels.now ≡ 1024) }
-    ensures { result ≡ first (λ k. eqb (row_key labels.now k) key) n }
+    ensures first { FirstIs (is_row labels.now name.now) n result }
+    ensures value { unwrap_or result n ≡ find labels.now n name.now }
 {
-    let mut b = 0;
-    while AT_ONCE * b < n {
-        let i = first_of_four(labels, AT_ONCE * b, key);
-        if i < AT_ONCE {
-            return lower(AT_ONCE * b + i, n);
+    let key = key(name);
+    for b in 0..n.div_ceil(AT_ONCE) {
+        let mut is_here = false;
+        for k in AT_ONCE * b..AT_ONCE * b + AT_ONCE {
+            is_here |= has_key(labels, k, key);
         }
-        b += 1;
+        if is_here {
+            return (AT_ONCE * b..n).find(|&k| has_key(labels, k, key));
+        }
     }
-    n
+    None
 }
 
-// The path among the first n whose label is the one between two places, or n.
-pub fn find(labels: &[u8], n: usize, text: &[u8], place: usize, end: usize) -> usize
-    requires { (n ≤ 128) × (length labels.now ≡ 1024) × (place ≤ end) × (end ≤ length text.now) }
-    ensures { result ≡ find labels.now n (part text.now place end) }
+// Puts a name down as path k's label.
+pub fn put_row(labels: &mut [u8], k: usize, name: &[u8])
+    requires { 8 * k + 8 ≤ length labels.old }
+    ensures { labels.new ≡ put_row labels.old k name.now }
 {
-    first_row(labels, n, label_key(text, place, end))
+    let start = rules::LABEL * k;
+    labels[start..start + rules::LABEL].copy_from_slice(&filled(name));
 }
 
-// Puts the label between two places down as path k's.
-pub fn put_row(labels: &mut [u8], k: usize, text: &[u8], place: usize, end: usize)
-    requires { (place ≤ end) × (end ≤ length text.now) × (8 * k + 8 ≤ length labels.old) }
-    ensures { labels.new
-        ≡ put_row labels.old k (part text.now place end) }
+// Path k's label.
+#[tactic(auto, unfolding(rules::specs::Writing::label_of))]
+pub fn name(labels: &[u8], k: usize) -> &[u8]
+    requires { 8 * k + 8 ≤ length labels.now }
+    ensures { result.now ≡ label_of labels.now k }
 {
-    let mut j = 0;
-    while j < rules::LABEL {
-        labels[rules::LABEL * k + j] = label_byte(text, place, end, j);
-        j += 1;
-    }
+    text::label_bytes(row(labels, k)).0
 }
 
 // How many bytes path k's label has.
@@ -119,38 +97,24 @@ pub fn label_length(labels: &[u8], k: usize) -> usize
     requires { 8 * k + 8 ≤ length labels.now }
     ensures { result ≡ length (label_of labels.now k) }
 {
-    let mut j = 0;
-    while j < rules::LABEL {
-        if !text::in_class(labels[rules::LABEL * k + j], true) {
-            return j;
-        }
-        j += 1;
-    }
-    j
+    name(labels, k).len()
 }
 
 // 11, in the writer: path k's row is no label with zeros after it.
+#[tactic(auto, unfolding(rules::specs::Writing::bad_label))]
 pub fn bad_label(labels: &[u8], k: usize) -> bool
     requires { 8 * k + 8 ≤ length labels.now }
     ensures { result ≡ bad_label labels.now k }
 {
-    let mut j = label_length(labels, k);
-    if j == 0 {
-        return true;
-    }
-    while j < rules::LABEL {
-        if labels[rules::LABEL * k + j] != 0 {
-            return true;
-        }
-        j += 1;
-    }
-    false
+    let name = name(labels, k);
+    name.is_empty() || !is_row(labels, k, name)
 }
 
-// 12, in the writer: path k's label, which is not refused 11, is an earlier path's.
+// 12, in the writer: path k's label is an earlier path's.
+#[tactic(auto, using(table_laws::specs::Searches::found_of), unfolding(rules::specs::Writing::label_twice))]
 pub fn label_twice(labels: &[u8], k: usize) -> bool
-    requires { (k < 128) × (length labels.now ≡ 1024) × (bad_label labels.now k ≡ false) }
+    requires { (k < 128) × (length labels.now ≡ 1024) }
     ensures { result ≡ label_twice labels.now k }
 {
-    first_row(labels, k, row_key(labels, k)) < k
+    find(labels, k, name(labels, k)).is_some()
 }

@@ -1,16 +1,20 @@
 -- The paths filed by the slot after their end, 32 slots to a file and every 128th file in one. A path stands in
 -- its own file and in the next, so that all paths that may hold up another are in one file: that of its start,
 -- since a guard is at most 32. Assumes nothing.
-use Rattle.std.specs.Prelude.{ℕ, ◌+◌, ◌-◌, ◌/◌, ◌%◌, ◌≤◌, ◌<◌, ◌≡◌, refl, ◌≢◌, ◌⊎◌, Bool, cond, ◌&&◌, List, length, set, ltb, eqb}
-use Rattle.std.proofs.Common.{sym, ap, subst, ◌∙◌, inl, inr, arith, length-set, eq-eqb, ne_eqb, lt-ltb, le-ltb}
+use Rattle.std.specs.Prelude.{ℕ, ◌+◌, ◌-◌, ◌/◌, ◌%◌, ◌≤◌, ◌<◌, ◌≡◌, refl, ◌≢◌, ◌⊎◌, Bool, cond, ◌&&◌, List, length, set, ltb, eqb, Some, None}
+use Rattle.std.proofs.Common.{sym, ap, subst, ◌∙◌, inl, inr, arith, length-set, eq-eqb, ne_eqb}
 use Rattle.std.proofs.Math.Bool.{true, false}
+use Rattle.std.proofs.Math.Nat.{ℕ_set}
+use Rattle.std.proofs.Props as std_props
 use Rattle.std.proofs.Math.Decide.{dec_lt, ℕ_discrete}
-use Rattle.rules.specs.Tables.{at, cell, cleared, Lent}
-use Rattle.rules.specs.Limits.{Network}
-use Rattle.rules.specs.Scan.{first}
-use Rattle.rules.specs.Plan.{Net, net_of, past}
+use Rattle.std.proofs.lemmas.Bool.Decides.{nat_tests}
+use Rattle.rules.specs.Tables.{at, cell, cleared}
+use Rattle.rules.specs.Scan.{found}
+use Rattle.rules.specs.Plan.{Net, net_of}
 use Rattle.rules.specs.Reason.{is_below, holds_up, link, HoldsUp}
-use Rattle.table_laws.specs.Scans.{first_none, first_at}
+use Rattle.network.specs.declared.Plan.{Plan}
+use Rattle.network.specs.Lent.{lent}
+use Rattle.table_laws.specs.Scans.{first_at, found_at, found_none}
 use Rattle.table_laws.specs.Tables.{at_same, at_other, cleared_at, cleared_length}
 use Rattle.plan_laws.specs.Fits.{network_bounds}
 use Rattle.plan_laws.specs.Reason.{holds_parts}
@@ -30,6 +34,15 @@ file_of widths starts j = file_at (at starts j + at widths j)
 abbrev pub Stands : ℕ → ℕ → Type 0
 Stands f b = (f ≡ b) ⊎ (above f ≡ b)
 
+-- it is in its own or in the next, and never in one as both
+pub stands_prop : {f b : ℕ} → IsProp ((f ≡ b) ⊎ ((f + 1) % 128 ≡ b))
+stands_prop (inl p) (inl q) = ap inl (ℕ_set _ _ p q)
+stands_prop (inr p) (inr q) = ap inr (ℕ_set _ _ p q)
+stands_prop (inl p) (inr q) = absurd (omega arith)
+stands_prop (inr p) (inl q) = absurd (omega arith)
+
+pub ruleset props = (stands_prop, std_props.props)
+
 -- r is the first path from x on that is in file b; any number of n or more where there is none
 pub record Next (file : ℕ → ℕ) (n b x r : ℕ) : Type 0 where
   pub up : x ≤ r
@@ -46,15 +59,16 @@ pub record Filed (file : ℕ → ℕ) (n i : ℕ) (heads owns ups : List ℕ) : 
   pub own : (j : ℕ) → i ≤ j → j < n → Next file n (file j) (j + 1) (at owns j)
   pub over : (j : ℕ) → i ≤ j → j < n → Next file n (above (file j)) (j + 1) (at ups j)
 
-pub filed_none : (file : ℕ → ℕ) (n : ℕ) (heads owns ups : List ℕ) → n ≤ 128 → heads ≡ cleared 128 128 → length owns ≡ 128 → length ups ≡ 128 → Filed file n n heads owns ups
-filed_none file n heads owns ups few e l m = record {
-  heads_size = ap length e ∙ cleared_length 128 128;
+-- at first no file has a path
+pub filed_none : (file : ℕ → ℕ) (n : ℕ) (owns ups : List ℕ) → n ≤ 128 → length owns ≡ 128 → length ups ≡ 128 → Filed file n n (cleared 128 128) owns ups
+filed_none file n owns ups few l m = record {
+  heads_size = cleared_length 128 128;
   owns_size = l;
   ups_size = m;
   begins = λ b g. record {
-    up = omega (arith, ap (λ t. at t b) e, cleared_at 128 128 b g);
+    up = omega (arith, cleared_at 128 128 b g);
     skip = λ i h g m. absurd (omega arith);
-    hit = λ h. absurd (omega (arith, ap (λ t. at t b) e, cleared_at 128 128 b g));
+    hit = λ h. absurd (omega (arith, cleared_at 128 128 b g));
   };
   own = λ j h g. absurd (omega arith);
   over = λ j h g. absurd (omega arith);
@@ -139,15 +153,7 @@ pub record Searching (holds : ℕ → Bool) (file : ℕ → ℕ) (n b j : ℕ) :
   pub before : (i : ℕ) → i < j → i < n → Stands (file i) b → holds i ≡ false
   pub here : j < n → Stands (file j) b
 
-pub record Searched (holds : ℕ → Bool) (file : ℕ → ℕ) (n b r : ℕ) : Type 0 where
-  pub within : r ≤ n
-  pub before : (i : ℕ) → i < r → Stands (file i) b → holds i ≡ false
-  pub found : r < n → holds r ≡ true
-
 module _ (holds : ℕ → Bool) (file : ℕ → ℕ) (n b j : ℕ) where
-  pub search_first : Next file n b 0 j → Searching holds file n b j
-  search_first f = record { before = λ i g h e. absurd (f.skip i (omega arith) g h e); here = f.hit }
-
   search_more : (r : ℕ) → Searching holds file n b j → holds j ≡ false → Next file n b (j + 1) r → Searching holds file n b r
   search_more r s e f = record { before = λ i g h q. go i g h q (dec_lt i j) (ℕ_discrete i j); here = f.hit }
     where
@@ -172,12 +178,6 @@ module _ (holds : ℕ → Bool) (file : ℕ → ℕ) (n b j : ℕ) where
       go (yes y) = let is : r ≡ at owns j = q ∙ rw (eq-eqb (file j) b y) in moved (file j) y (rw is (f.own j (omega arith) l))
       go (no y) = let is : r ≡ at ups j = q ∙ rw (ne_eqb (file j) b y) in moved (above (file j)) (other y (s.here l)) (rw is (f.over j (omega arith) l))
 
-  pub search_found : j < n → Searching holds file n b j → holds j ≡ true → Searched holds file n b j
-  search_found l s e = record { within = omega arith; before = λ i g q. s.before i g (omega arith) q; found = λ h. e }
-
-  pub search_none : n ≤ j → Searching holds file n b j → Searched holds file n b n
-  search_none l s = record { within = omega arith; before = λ i g q. s.before i (omega arith) (omega arith) q; found = λ h. absurd (omega arith) }
-
 -- a path that ends just below slot s with a guard of at most 32 is in the file of s
 ends_near : (s t g : ℕ) → t + g ≡ s → g ≤ 32 → Stands (file_at t) (file_at s)
 ends_near s t g e l = go (ℕ_discrete (t / 32) (s / 32))
@@ -186,62 +186,52 @@ ends_near s t g e l = go (ℕ_discrete (t / 32) (s / 32))
     go (yes q) = inl (ap (λ (x : ℕ). x % 128) q)
     go (no q) = inr (let d : t / 32 + 1 ≡ s / 32 = omega arith in let m : (t / 32 % 128 + 1) % 128 ≡ (t / 32 + 1) % 128 = omega arith in m ∙ ap (λ (x : ℕ). x % 128) d)
 
--- the test of a pair: end + guard + 1 is the start, and then the path starts lower
-pub meets_holds : (net : Net) (plan : ℕ → ℕ) (k j : ℕ) → net.guard k j ≡ net.guard j k → 1 ≤ net.width j
-    → (ltb (net.guard k j) 255 && eqb (plan j + net.width j + net.guard k j) (plan k)) ≡ holds_up net plan k j
-unfolding holds_up is_below
-meets_holds net plan k j e w = go (ltb (net.guard j k) 255) (ℕ_discrete (past net j k (plan j)) (plan k)) (ap (λ g. ltb g 255) e)
-  where
-    go : (a : Bool) → Dec (past net j k (plan j) ≡ plan k) → ltb (net.guard k j) 255 ≡ a
-        → (ltb (net.guard k j) 255 && eqb (plan j + net.width j + net.guard k j) (plan k)) ≡ ((a && ltb (plan j) (plan k)) && eqb (past net j k (plan j)) (plan k))
-    go false d f = rw f
-    go true (yes q) f = rw (f, eq-eqb (plan j + net.width j + net.guard k j) (plan k) (omega arith), lt-ltb (plan j) (plan k) (omega arith), eq-eqb (past net j k (plan j)) (plan k) q)
-    go true (no q) f = rw (f, ne_eqb (plan j + net.width j + net.guard k j) (plan k) (λ z. q (omega arith)), ne_eqb (past net j k (plan j)) (plan k) q) (sym (none (ltb (plan j) (plan k))))
-      where
-        none : (b : Bool) → (b && false) ≡ false
-        none true = refl
-        none false = refl
+-- path k of a plan, and the paths that hold it up
+module _ (p : Plan) (k : ℕ) (l : k < p.net.n) where
+  abbrev n : ℕ
+  n = p.net.n
 
--- the search of the file of k's start gives its link
-module _ (n : ℕ) (lent : Lent) (starts : List ℕ) (k : ℕ) (w : Network n lent) (l : k < n) where
   abbrev net : Net
-  net = net_of lent
+  net = net_of (lent p.net)
 
   abbrev file : ℕ → ℕ
-  file = file_of lent.widths starts
+  file = file_of p.net.widths.now p.starts.now
 
   abbrev holds : ℕ → Bool
-  holds = holds_up net (at starts) k
+  holds = holds_up net (at p.starts.now) k
 
-  held_file : (i : ℕ) → HoldsUp net (at starts) n k i → Stands (file i) (file_at (at starts k))
+  -- the test of a pair: end + guard + 1 is the start, and then the path starts lower
+  pub meets_holds : (j : ℕ) → j < n
+      → holds j ≡ (ltb (at p.net.guards.now (cell k j)) 255 && eqb (at p.starts.now j + at p.net.widths.now j + at p.net.guards.now (cell k j)) (at p.starts.now k))
+  unfolding holds_up is_below
+  meets_holds j m =
+      let e = p.net.within.mirrored k j l m in
+      let w = p.net.within.width j m in
+      grind (arith, nat_tests)
+
+  held_file : (i : ℕ) → HoldsUp net (at p.starts.now) n k i → Stands (file i) (file_at (at p.starts.now k))
   held_file i h =
-      ends_near (at starts k) (at starts i + at lent.widths i) (at lent.guards (cell i k)) (omega (arith, h.meets, (w.width i h.path).0))
-      ((network_bounds n lent w).near i k h.path l h.conflict)
+      ends_near (at p.starts.now k) (at p.starts.now i + at p.net.widths.now i) (at p.net.guards.now (cell i k)) (omega (arith, h.meets, (p.net.within.width i h.path).0))
+      ((network_bounds n (lent p.net) p.net.within).near i k h.path l h.conflict)
 
-  pub link_found : (r : ℕ) → Searched holds file n (file_at (at starts k)) r → r ≡ link net (at starts) n k
-  unfolding link
-  link_found r f = go (dec_lt r n)
+  not_held : (r : ℕ) → Searching holds file n (file_at (at p.starts.now k)) r → (i : ℕ) → i < r → i < n → holds i ≡ false
+  not_held r s i g x = go (holds i) refl
     where
-      not_held : (i : ℕ) → i < r → (b : Bool) → holds i ≡ b → holds i ≡ false
-      not_held i g false e = e
-      not_held i g true e = f.before i g (held_file i (holds_parts net (at starts) k i n (omega (arith, f.within)) e))
+      go : (b : Bool) → holds i ≡ b → holds i ≡ false
+      go false e = e
+      go true e = s.before i g x (held_file i (holds_parts net (at p.starts.now) k i n x e))
 
-      go : Dec (r < n) → r ≡ first holds n
-      go (yes x) = sym (first_at holds n r (λ i g. not_held i g (holds i) refl) (f.found x) x)
-      go (no x) =
-          let q : r ≡ n = omega (arith, f.within) in
-          q ∙ sym (first_none holds n (λ i g. not_held i (omega arith) (holds i) refl))
+  -- the search of the file of k's start gives its link, or tells that there is none
+  pub link_some : (r : ℕ) → Searching holds file n (file_at (at p.starts.now k)) r → r < n → holds r ≡ true
+      → Some r ≡ cond (found holds n) (Some (link net (at p.starts.now) n k)) None
+  unfolding link
+  link_some r s x e = rw (found_at holds n r x e, first_at holds n r (λ i g. not_held r s i g (omega arith)) e x) refl
 
--- the two ways out of the test of a pair
-pub meets_free : (g x t : ℕ) → 255 ≤ g → false ≡ (ltb g 255 && eqb x t)
-meets_free g x t l = rw (le-ltb g 255 l)
+  pub link_none : (r : ℕ) → Searching holds file n (file_at (at p.starts.now k)) r → n ≤ r
+      → None ≡ cond (found holds n) (Some (link net (at p.starts.now) n k)) None
+  link_none r s x = rw (found_none holds n (λ i g. not_held r s i (omega arith) g)) refl
 
-pub meets_told : (g x t : ℕ) → g < 255 → eqb x t ≡ (ltb g 255 && eqb x t)
-meets_told g x t l = rw (lt-ltb g 255 l)
+-- the test of a pair, for the code
+pub ruleset pairs = (meets_holds, nat_tests)
 
--- the two ways out of the look-up
-pub own_told : (file b x y f : ℕ) → f ≡ file → f ≡ b → x ≡ cond (eqb file b) x y
-own_told file b x y f e q = rw (eq-eqb file b (sym e ∙ q))
-
-pub up_told : (file b x y f : ℕ) → f ≡ file → f ≢ b → y ≡ cond (eqb file b) x y
-up_told file b x y f e q = rw (ne_eqb file b (λ z. q (e ∙ z)))
+pub ruleset searches = (search_step, link_some, link_none)

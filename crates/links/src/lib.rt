@@ -2,120 +2,134 @@
 // that holds another up is looked for in one file alone.
 #![tactic(auto)]
 
-ghost use Rattle.std.specs.Prelude.{◌≡◌, cond, ◌&&◌, ℕ, ◌+◌, ◌≤◌, ◌<◌, length, ltb, eqb};
-ghost use Rattle.rules.specs.Tables.{at, cleared, lend};
-ghost use Rattle.rules.specs.Limits.{Network, Starts};
+ghost use Rattle.std.specs.Prelude.{◌≡◌, cond, eqb, ◌+◌, ◌<◌, Some, None};
+ghost use Rattle.rules.specs.Tables.{at};
+ghost use Rattle.rules.specs.Scan.{found};
 ghost use Rattle.rules.specs.Plan.{net_of};
 ghost use Rattle.rules.specs.Reason.{holds_up, link};
-ghost use Rattle.links.specs.Files.{file_of, Filed};
+ghost use Rattle.network.specs.Lent.{lent};
+ghost use Rattle.links.specs.Files.{file_at, file_of, Filed, props};
+
+use network::Plan;
+use rules::PATHS;
 
 // 32 slots to a file, as many as a guard can have, and every 128th file in one, so that there are few to clear.
-pub const FILES: usize = 128;
+const SLOTS: usize = 32;
+
+const FILES: usize = 128;
+
+// No path has this number.
+const NONE: u8 = 128;
+
+// The file of a slot.
+fn file_at(slot: u16) -> usize
+    ensures { (result ≡ file_at slot) × (result < 128) }
+{
+    usize::from(slot) / SLOTS % FILES
+}
+
+// The slot after the end of path j.
+fn after(plan: &Plan, j: usize) -> u16
+    requires { j < plan.now.net.n }
+    ensures { result ≡ at plan.now.starts.now j + at plan.now.net.widths.now j }
+{
+    plan.start(j) + plan.net.width(j)
+}
 
 // The file of path j: that of the slot after its end.
-fn file_of(j: usize, widths: &[u16], starts: &[u16]) -> usize
-    requires { (j < length widths.now) × ((j < length starts.now)
-        × ((at widths.now j ≤ 64) × (at starts.now j ≤ 16384))) }
-    ensures { (result ≡ file_of widths.now starts.now j) × (result < 128) }
+fn file_of(plan: &Plan, j: usize) -> usize
+    requires { j < plan.now.net.n }
+    ensures { (result ≡ file_of plan.now.net.widths.now plan.now.starts.now j) × (result < 128) }
 {
-    (starts[j] + widths[j]) as usize / 32 % FILES
+    file_at(after(plan, j))
 }
 
-// Files the n paths, from the last to the first, each in its own file and in the one above: heads[b] is the
-// first path of file b, owns[j] the path after j in j's own file, ups[j] the one after j in the file above.
-pub fn file_paths(
-    n: usize,
-    widths: &[u16],
-    starts: &[u16],
-    heads: &mut [u8],
-    owns: &mut [u8],
-    ups: &mut [u8],
-)
-    requires { (n ≤ 128) × ((heads.old ≡ cleared 128 128) × ((length owns.old ≡ 128)
-        × ((length ups.old ≡ 128) × ((length widths.now ≡ 128)
-        × (((k : ℕ) → k < n → at widths.now k ≤ 64) × Starts n starts.now))))) }
-    ensures { Filed (file_of widths.now starts.now) n 0 heads.new
-        owns.new ups.new }
+// Whether path j holds path k up: end + guard + 1 is k's start, and so it starts lower, since it has a slot at least.
+// 255 is no conflict.
+#[tactic(auto, using(crate::specs::Files::pairs))]
+fn holds_up(plan: &Plan, k: usize, j: usize) -> bool
+    requires { (k < plan.now.net.n) × (j < plan.now.net.n) }
+    ensures { result ≡ holds_up (net_of (lent plan.now.net)) (at plan.now.starts.now) k j }
 {
-    let mut j = n;
-    while 0 < j {
-        j -= 1;
-        let f = file_of(j, widths, starts);
-        let a = (f + 1) % FILES;
-        owns[j] = heads[f];
-        heads[f] = j as u8;
-        ups[j] = heads[a];
-        heads[a] = j as u8;
-    }
+    let guard = plan.net.guard(k, j);
+    guard < rules::NO_CONFLICT && after(plan, j) + u16::from(guard) == plan.start(k)
 }
 
-// Whether a path at s with width w and guard g towards another ends just below its start t: with end + guard
-// + 1. 255 is no conflict.
-fn meets(g: u8, s: u16, w: u16, t: u16) -> bool
-    requires { (s ≤ 16384) × (w ≤ 64) }
-    ensures { result ≡ (ltb g 255 && eqb (s + w + g) t) }
-{
-    if rules::NO_CONFLICT <= g {
-        return false;
-    }
-    s + w + (g as u16) == t
+// Room for the files of any plan, whatever it holds: heads[b] is the first path of file b, owns[j] the path after j in
+// j's own file, ups[j] the one after j in the file above. A path is a byte.
+#[derive(Drop)]
+pub struct Room {
+    heads: [u8; FILES],
+    owns: [u8; PATHS],
+    ups: [u8; PATHS],
 }
 
-// Whether path j holds path k up. It starts lower then, since it has a slot at least.
-fn holds_up(n: usize, k: usize, j: usize, widths: &[u16], guards: &[u8], starts: &[u16]) -> bool
-    requires { (k < n) × ((j < n) × (Network n (lend widths.now guards.now) × Starts n starts.now)) }
-    ensures { result ≡ holds_up (net_of (lend widths.now guards.now))
-        (at starts.now) k j }
-{
-    let g = guards[rules::PATHS * k + j];
-    meets(g, starts[j], widths[j], starts[k])
+impl Room {
+    pub const EMPTY: Room = Room {
+        heads: [NONE; FILES],
+        owns: [NONE; PATHS],
+        ups: [NONE; PATHS],
+    };
 }
 
-// The path after j in file b, which is j's own or the one above.
-fn next_in(
-    n: usize,
-    b: usize,
-    j: usize,
-    owns: &[u8],
-    ups: &[u8],
-    widths: &[u16],
-    starts: &[u16],
-) -> usize
-    requires { (j < n) × ((n ≤ 128) × ((length owns.now ≡ 128) × ((length ups.now ≡ 128)
-        × ((length widths.now ≡ 128) × ((at widths.now j ≤ 64) × Starts n starts.now))))) }
-    ensures { result ≡ cond (eqb (file_of widths.now starts.now j) b)
-        (at owns.now j) (at ups.now j) }
-{
-    let f = file_of(j, widths, starts);
-    if f == b {
-        return owns[j] as usize;
-    }
-    ups[j] as usize
+// The paths of a plan, each filed in its own file and in the one above. The room is lent: a value that holds it would
+// be copied where it is handed over.
+#[derive(Drop)]
+pub struct Files<'a> {
+    pub plan: &'a Plan<'a>,
+    room: &'a Room,
+    ghost filed: { Filed (file_of plan.now.net.widths.now plan.now.starts.now) plan.now.net.n 0
+        room.now.heads room.now.owns room.now.ups } by { Prim.hlevel props },
 }
 
-// The link of path k, or n: in the file of its start the lowest number that holds it up.
-pub fn link_of(
-    n: usize,
-    k: usize,
-    heads: &[u8],
-    owns: &[u8],
-    ups: &[u8],
-    widths: &[u16],
-    guards: &[u8],
-    starts: &[u16],
-) -> usize
-    requires { (k < n) × (Network n (lend widths.now guards.now) × (Starts n starts.now
-        × Filed (file_of widths.now starts.now) n 0 heads.now owns.now ups.now)) }
-    ensures { result ≡ link (net_of (lend widths.now guards.now))
-        (at starts.now) n k }
-{
-    let b = starts[k] as usize / 32 % FILES;
-    let mut j = heads[b] as usize;
-    while j < n {
-        if holds_up(n, k, j, widths, guards, starts) {
-            return j;
+impl<'a> Files<'a> {
+    // Files the paths from the last to the first, so that the lowest number of a file is its first.
+    pub fn of(plan: &'a Plan<'a>, room: &'a mut Room) -> Files<'a>
+        ensures { result.plan.now ≡ plan.now }
+    {
+        room.heads = [NONE; FILES];
+        for j in (0..plan.net.n).rev() {
+            let own = file_of(plan, j);
+            let above = (own + 1) % FILES;
+            room.owns[j] = room.heads[own];
+            room.heads[own] = j as u8;
+            room.ups[j] = room.heads[above];
+            room.heads[above] = j as u8;
         }
-        j = next_in(n, b, j, owns, ups, widths, starts);
+        Files { plan, room }
     }
-    n
+
+    // The path after j in file b, which is j's own or the one above.
+    fn next_in(&self, b: usize, j: usize) -> usize
+        requires { j < self.now.plan.now.net.n }
+        ensures { let p = self.now.plan.now in result
+            ≡ cond (eqb (file_of p.net.widths.now p.starts.now j) b) (at self.now.room.now.owns j)
+            (at self.now.room.now.ups j) }
+    {
+        let next = if file_of(self.plan, j) == b {
+            self.room.owns[j]
+        } else {
+            self.room.ups[j]
+        };
+        usize::from(next)
+    }
+
+    // The link of path k: in the file of its start the lowest number that holds it up.
+    #[tactic(auto, using(crate::specs::Files::searches))]
+    pub fn link_of(&self, k: usize) -> Option<usize>
+        requires { k < self.now.plan.now.net.n }
+        ensures { let p = self.now.plan.now in let net = net_of (lent p.net) in result
+            ≡ cond (found (holds_up net (at p.starts.now) k) p.net.n)
+            (Some (link net (at p.starts.now) p.net.n k)) None }
+    {
+        let file = file_at(self.plan.start(k));
+        let mut j = usize::from(self.room.heads[file]);
+        while j < self.plan.net.n {
+            if holds_up(self.plan, k, j) {
+                return Some(j);
+            }
+            j = self.next_in(file, j);
+        }
+        None
+    }
 }

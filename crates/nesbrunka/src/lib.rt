@@ -1,5 +1,5 @@
 // The library's C face: each call under its exported name, with the promise of the call itself. In C a
-// slice is a pointer and then a length.
+// slice is a pointer and then a length, and a Result is a struct that begins with the number of the refusal.
 #![tactic(auto)]
 
 ghost use Rattle.std.specs.Prelude.{◌≡◌};
@@ -16,7 +16,7 @@ pub extern "C" fn nesbrunka_judge(n: usize, widths: &[u16], guards: &[u8], start
     ensures { result ≡ judging n (lend widths.now guards.now)
         starts.now }
 {
-    packing::judge(n, widths, guards, starts)
+    packing::judge(n, widths, guards, starts).into()
 }
 
 #[unsafe(no_mangle)]
@@ -31,7 +31,7 @@ pub extern "C" fn nesbrunka_pack(
         ≡ packing n (lend widths.now guards.now) order.now
         starts.old }
 {
-    packing::pack(n, widths, guards, order, starts)
+    packing::pack(n, widths, guards, order, starts).into()
 }
 
 #[unsafe(no_mangle)]
@@ -44,7 +44,7 @@ pub extern "C" fn nesbrunka_press(
     ensures { left result starts.new
         ≡ pressing n (lend widths.now guards.now) starts.old }
 {
-    packing::press(n, widths, guards, starts)
+    packing::press(n, widths, guards, starts).into()
 }
 
 #[unsafe(no_mangle)]
@@ -60,7 +60,7 @@ pub extern "C" fn nesbrunka_why(
         ≡ explaining n (lend widths.now guards.now) starts.now path
         chain.old }
 {
-    reason::why(n, widths, guards, starts, path, chain)
+    reason::why(n, widths, guards, starts, path, chain).into()
 }
 
 // An exported function cannot return a reference: 1 for the first order, 2 for the second, 0 for neither.
@@ -75,7 +75,7 @@ pub extern "C" fn nesbrunka_better(
     ensures { result ≡ comparing n (lend widths.now guards.now)
         first.now second.now }
 {
-    packing::compare(n, widths, guards, first, second)
+    packing::winner_number(packing::compare(n, widths, guards, first, second))
 }
 
 #[unsafe(no_mangle)]
@@ -88,7 +88,7 @@ pub extern "C" fn nesbrunka_two_sides(
     ensures { left result order.new
         ≡ siding n (lend widths.now guards.now) order.old }
 {
-    planning::two_sides(n, widths, guards, order)
+    planning::two_sides(n, widths, guards, order).into()
 }
 
 #[unsafe(no_mangle)]
@@ -105,7 +105,7 @@ pub extern "C" fn nesbrunka_plan(
         ≡ planning n (lend widths.now guards.now) order.old
         starts.old seed rounds }
 {
-    planning::plan(n, widths, guards, order, starts, seed, rounds)
+    planning::plan(n, widths, guards, order, starts, seed, rounds).into()
 }
 
 #[unsafe(no_mangle)]
@@ -122,14 +122,14 @@ pub extern "C" fn nesbrunka_improve(
         ≡ improving n (lend widths.now guards.now) order.old
         starts.old seed rounds }
 {
-    planning::improve(n, widths, guards, order, starts, seed, rounds)
+    planning::improve(n, widths, guards, order, starts, seed, rounds).into()
 }
 
 #[unsafe(no_mangle)]
 pub extern "C" fn nesbrunka_floor(n: usize, widths: &[u16], guards: &[u8], list: &[u8]) -> Floored
     ensures { result ≡ flooring n (lend widths.now guards.now) list.now }
 {
-    planning::floor(n, widths, guards, list)
+    planning::floor(n, widths, guards, list).into()
 }
 
 #[unsafe(no_mangle)]
@@ -145,7 +145,7 @@ pub extern "C" fn nesbrunka_read(
         ≡ reading text.now labels.old
         (lend widths.old guards.old) starts.old }
 {
-    sheet::read(text, labels, widths, guards, starts)
+    sheet::read(text, labels, widths, guards, starts).into()
 }
 
 #[unsafe(no_mangle)]
@@ -161,7 +161,7 @@ pub extern "C" fn nesbrunka_write(
         ≡ writing n labels.now (lend widths.now guards.now)
         starts.now text.old }
 {
-    sheet::write(n, labels, widths, guards, starts, text)
+    sheet::write(n, labels, widths, guards, starts, text).into()
 }
 
 #[unsafe(no_mangle)]
@@ -192,7 +192,7 @@ pub extern "C" fn nesbrunka_order_write(
         ≡ order_writing anchor n labels.now (lend widths.now guards.now)
         starts.now text.old }
 {
-    order::order_write(anchor, n, labels, widths, guards, starts, text)
+    order::order_write(anchor, n, labels, widths, guards, starts, text).into()
 }
 
 #[unsafe(no_mangle)]
@@ -209,5 +209,5 @@ pub extern "C" fn nesbrunka_order_read(
         ≡ order_reading anchor text.now n labels.now
         (lend widths.now guards.now) starts.old }
 {
-    order::order_read(anchor, text, n, labels, widths, guards, starts)
+    order::order_read(anchor, text, n, labels, widths, guards, starts).into()
 }

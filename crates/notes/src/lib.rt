@@ -1,50 +1,47 @@
 // An inner crate of the plan program: the line that `--verbose` adds on standard error.
 #![tactic(auto)]
 
-ghost use Rattle.std.specs.Prelude.{◌≡◌, ◌+◌, ◌≤◌, min, length, eqb};
+ghost use Rattle.std.specs.Prelude.{◌≡◌, ◌+◌, ◌≤◌, length, eqb};
 ghost use Rattle.rules.specs.Tables.{cleared, lend};
 ghost use Rattle.rules.specs.Writing.{pairs};
 ghost use Rattle.rules.specs.Calls.{siding};
 ghost use Rattle.spelling.specs.Says.{Wrote};
 ghost use Rattle.notes.specs.Note.{part, note_text};
 
-fn least(v: usize, most: usize) -> usize
-    ensures { (result ≡ min v most) × (result ≤ most) }
-{
-    if v < most { v } else { most }
-}
+use spelling::{Pen, Sink};
 
 // Puts some words and a number.
-fn put_part(line: &mut [u8], place: usize, w: &[u8], v: usize) -> usize
-    requires { place + length w.now + 5 ≤ length line.old }
-    ensures wrote { Wrote line.old place (part w.now v) result line.new }
-    ensures upper_bound { result ≤ place + length w.now + 5 }
+#[tactic(auto, unfolding(crate::specs::Note::part))]
+fn put_part<S: Sink>(sink: &mut S, w: &[u8], v: usize)
+    requires { length w.now + 5 ≤ S.room sink.old }
+    ensures wrote { S.takes sink.old (part w.now v) sink.new }
+    ensures upper_bound { S.room sink.old ≤ S.room sink.new + length w.now + 5 }
 {
-    phrases::put_part(line, place, w, least(v, 99999))
+    phrases::put_part(sink, w, v.min(99999));
 }
 
 // Puts the line.
-fn put_note(
-    line: &mut [u8],
+fn put_note<S: Sink>(
+    sink: &mut S,
     n: usize,
     conflicts: usize,
     highest: usize,
     sided: bool,
     kept: usize,
-) -> usize
-    requires { 80 ≤ length line.old }
-    ensures wrote { Wrote line.old 0 (note_text n conflicts highest sided kept) result
-        line.new }
-    ensures upper_bound { result ≤ 80 }
+)
+    requires { 80 ≤ S.room sink.old }
+    ensures wrote { S.takes sink.old (note_text n conflicts highest sided kept) sink.new }
+    ensures upper_bound { S.room sink.old ≤ S.room sink.new + 80 }
 {
-    let p = put_part(line, 0, b"planned ", n);
-    let q = put_part(line, p, b" paths, ", conflicts);
-    let e = put_part(line, q, b" pairs, highest slot ", highest);
+    put_part(sink, b"planned ", n);
+    put_part(sink, b" paths, ", conflicts);
+    put_part(sink, b" pairs, highest slot ", highest);
     if sided {
-        return spelling::put_word(line, e, b", two sides\n");
+        sink.put_word(b", two sides\n");
+    } else {
+        put_part(sink, b", ", kept);
+        sink.put_word(b" swaps kept\n");
     }
-    let f = put_part(line, e, b", ", kept);
-    spelling::put_word(line, f, b" swaps kept\n")
 }
 
 // The line of a network that was planned.
@@ -62,8 +59,10 @@ pub fn note(
         result line.new }
     ensures upper_bound { result ≤ 80 }
 {
-    let mut order = [0u8; rules::PATHS];
+    let mut order = [0; rules::PATHS];
     let sides = planning::two_sides(n, widths, guards, &mut order);
     let conflicts = sheet_tables::pair_count(n, guards);
-    put_note(line, n, conflicts, highest, sides.number == 0, kept)
+    let mut pen = Pen::new(line);
+    put_note(&mut pen, n, conflicts, highest, sides.is_ok(), kept);
+    pen.place()
 }

@@ -1,24 +1,21 @@
 -- What both calls know of tables that are not refused, and what they leave. Assumes nothing.
-use Prim.Native.Nat.{ℕ, ◌≤◌}
-use mathlib.Core.Path.{◌≡◌, sym, ap, ◌∙◌}
-use mathlib.Core.Logic.{◌≢◌}
-use mathlib.Core.List.{List}
-use native.Mathlib.Omega.{arith}
-use lib.ListN.{length}
-use lib.IntN.{ℤ}
-use borrow.Author.Tests.{eq-eqb, ne_eqb}
+use Rattle.std.specs.Prelude.{ℕ, ◌≤◌, ◌≡◌, ℤ, List, length, Ok, Err}
+use Rattle.std.proofs.Common.{sym, ap, ◌∙◌, arith}
 use Rattle.rules.specs.declared.Fault.{Fault}
+use Rattle.rules.specs.declared.Refusal.{Refusal}
 use Rattle.rules.specs.Tables.{Lent}
 use Rattle.rules.specs.Limits.{Network}
-use Rattle.rules.specs.Sheet.{halt, done}
 use Rattle.rules.specs.Writing.{bad_label, label_twice}
 use Rattle.rules.specs.Grid.{order_from, order_text}
-use Rattle.rules.specs.Numbers.{◌or_else◌, scan, start_fault, label_sizes, anchor_fault, order_read_fault, order_write_fault, room_fault}
+use Rattle.rules.specs.Numbers.{no_fault, ◌or_else◌, scan, start_fault, label_sizes, anchor_fault, order_read_fault, order_write_fault, room_fault}
 use Rattle.rules.specs.Calls.{left, unless, refused_written, done_written, order_outcome, order_reading, order_writing}
+use Rattle.rules.specs.Told.{refused, order_read_of}
 use Rattle.table_laws.specs.Faults.{or_clear, or_assoc}
 use Rattle.table_laws.specs.Limits.{starts_within}
 use Rattle.table_laws.specs.Chains.{lent_clear}
+use Rattle.table_laws.specs.Results.{unless_err, unless_ok}
 use Rattle.sheet_laws.specs.Sizes.{labels_clear}
+use Rattle.sections.specs.Says.{ended_of}
 use Rattle.order_writer.specs.Ready.{Ready}
 use Rattle.order.specs.Tests.{table_fault}
 
@@ -82,16 +79,21 @@ module _ (anchor : ℤ) (n : ℕ) (labels : List ℕ) (lent : Lent) (starts : Li
     writing_is = ap (λ (x : Fault). unless x (refused_written text) (done_written (order_text anchor n labels lent.widths starts) text)) (sym in_order)
 
     -- a reading: refused by its tables, by a line, and done
-    module _ (f : Fault) (e : f ≡ order_read_fault anchor n labels lent starts) where
-      pub read_refused : f.number ≢ 0 → left (record { number = f.number; place = f.place }) starts ≡ order_reading anchor text n labels lent starts
-      unfolding order_reading unless
-      read_refused d = sym (rw (← e, ne_eqb f.number 0 d))
+    pub read_refused : (r : Refusal) → refused r ≡ order_read_fault anchor n labels lent starts → left (order_read_of (Err r)) starts ≡ order_reading anchor text n labels lent starts
+    unfolding order_reading
+    read_refused r e = sym (unless_err _ _ r e)
 
-      module _ (z : f.number ≡ 0) where
-        pub read_halt : (x y : ℕ) → order_from anchor n labels lent.widths starts text ≡ halt x y → left (record { number = x; place = y }) starts ≡ order_reading anchor text n labels lent starts
-        unfolding order_reading unless order_outcome
-        read_halt x y h = sym (rw (← e, eq-eqb f.number 0 z, h))
+    module _ (e : no_fault ≡ order_read_fault anchor n labels lent starts) where
+      read_on : order_outcome starts (order_from anchor n labels lent.widths starts text) ≡ order_reading anchor text n labels lent starts
+      unfolding order_reading
+      read_on = sym (unless_ok _ _ e)
 
-        pub read_done : (t l : List ℕ) → order_from anchor n labels lent.widths starts text ≡ done t l → left (record { number = 0; place = 0 }) t ≡ order_reading anchor text n labels lent starts
-        unfolding order_reading unless order_outcome
-        read_done t l h = sym (rw (← e, eq-eqb f.number 0 z, h))
+      pub read_halt : (r : Refusal) (t : List ℕ) → ended_of t (Err r) ≡ order_from anchor n labels lent.widths starts text
+          → left (order_read_of (Err r)) starts ≡ order_reading anchor text n labels lent starts
+      unfolding order_outcome
+      read_halt r t h = ap (order_outcome starts) h ∙ read_on
+
+      pub read_done : (t : List ℕ) → ended_of t (Ok tt) ≡ order_from anchor n labels lent.widths starts text
+          → left (order_read_of (Ok tt)) t ≡ order_reading anchor text n labels lent starts
+      unfolding order_outcome
+      read_done t h = ap (order_outcome starts) h ∙ read_on

@@ -1,71 +1,59 @@
 // The order sheet's two public calls (RULES 27): `order_write` and `order_read`. Nothing is asked of the caller.
 #![tactic(auto)]
 
-ghost use Rattle.std.specs.Prelude.{◌≡◌, length};
+ghost use Rattle.std.specs.Prelude.{◌≡◌};
 ghost use Rattle.rules.specs.Tables.{lend};
 ghost use Rattle.rules.specs.Numbers.{order_read_fault};
 ghost use Rattle.rules.specs.Calls.{left, order_writing, order_reading};
+ghost use Rattle.rules.specs.Told.{told, written_of, order_read_of};
 ghost use Rattle.order.specs.Tests.{given_fault, table_fault};
 
-use rules::{Fault, OrderRead, SheetWritten};
-use sections::Part;
+use rules::{Cause, Refusal};
 
 // 2 of the labels and the starts, then 17.
-fn given_fault(anchor: i32, labels: &[u8], starts: &[u16]) -> Fault
-    ensures { result ≡ given_fault anchor labels.now starts.now }
+fn check_given(anchor: i32, labels: &[u8], starts: &[u16]) -> Result<(), Refusal>
+    ensures { told result ≡ given_fault anchor labels.now starts.now }
 {
-    let sizes = sheet_tables::label_sizes(labels, starts);
-    if sizes.number != 0 {
-        return sizes;
-    }
-    grid::anchor_fault(anchor)
+    sheet_tables::check_label_sizes(labels, starts)?;
+    grid::check_anchor(anchor)
 }
 
 // What both calls test of their tables, in its order: 2, 17, 1, 3, 4, 5.
-fn lent_fault(
+fn check_lent(
     anchor: i32,
     n: usize,
     labels: &[u8],
     widths: &[u16],
     guards: &[u8],
     starts: &[u16],
-) -> Fault
-    ensures { result ≡ order_read_fault anchor n labels.now
+) -> Result<(), Refusal>
+    ensures { told result ≡ order_read_fault anchor n labels.now
         (lend widths.now guards.now) starts.now }
 {
-    let given = given_fault(anchor, labels, starts);
-    tables::lent_fault(n, widths, guards, given)
+    let given = check_given(anchor, labels, starts);
+    tables::check_network(n, widths, guards, given)?;
+    Ok(())
 }
 
 // What the writing tests of its tables: those, then 11, 12, 7.
-fn table_fault(
+fn check_tables(
     anchor: i32,
     n: usize,
     labels: &[u8],
     widths: &[u16],
     guards: &[u8],
     starts: &[u16],
-) -> Fault
-    ensures { result ≡ table_fault anchor n labels.now
+) -> Result<(), Refusal>
+    ensures { told result ≡ table_fault anchor n labels.now
         (lend widths.now guards.now) starts.now }
 {
-    let lent = lent_fault(anchor, n, labels, widths, guards, starts);
-    if lent.number != 0 {
-        return lent;
-    }
-    let label = sheet_tables::label_fault(n, labels);
-    if label.number != 0 {
-        return label;
-    }
-    let twice = sheet_tables::twice_fault(n, labels);
-    if twice.number != 0 {
-        return twice;
-    }
-    tables::start_fault(n, starts)
+    check_lent(anchor, n, labels, widths, guards, starts)?;
+    sheet_tables::check_labels(n, labels)?;
+    tables::check_starts(n, starts)
 }
 
-// Writes an order sheet into a lent text. The length is known before the first byte is written: 16 leaves the text
-// unchanged.
+// Writes an order sheet into a lent text, and answers its length. That is known before the first byte is written: 16
+// leaves the text unchanged.
 pub fn order_write(
     anchor: i32,
     n: usize,
@@ -74,46 +62,16 @@ pub fn order_write(
     guards: &[u8],
     starts: &[u16],
     text: &mut [u8],
-) -> SheetWritten
-    ensures { left result text.new
+) -> Result<usize, Refusal>
+    ensures { left (written_of result) text.new
         ≡ order_writing anchor n labels.now (lend widths.now guards.now)
         starts.now text.old }
 {
-    let fault = table_fault(anchor, n, labels, widths, guards, starts);
-    if fault.number != 0 {
-        return SheetWritten {
-            number: fault.number,
-            place: fault.place,
-            length: 0,
-        };
-    }
+    check_tables(anchor, n, labels, widths, guards, starts)?;
     let low = grid::counted(anchor);
     let length = order_writer::order_length(low, n, labels, widths, starts);
-    if text.len() < length {
-        return SheetWritten {
-            number: rules::REFUSED_ROOM,
-            place: 0,
-            length: 0,
-        };
-    }
-    order_writer::put_order(text, low, n, labels, widths, starts);
-    SheetWritten {
-        number: 0,
-        place: 0,
-        length,
-    }
-}
-
-// Copies a table into one of the same size.
-fn copy(from: &[u16], to: &mut [u16])
-    requires { length from.now ≡ length to.old }
-    ensures { to.new ≡ from.now }
-{
-    let mut k = 0;
-    while k < to.len() {
-        to[k] = from[k];
-        k += 1;
-    }
+    tables::refuse_if(text.len() < length, Cause::Room)?;
+    Ok(order_writer::put_order(text, low, n, labels, widths, starts))
 }
 
 // Reads an order sheet into the starts. They are read into a table of its own first, so that a line at fault leaves
@@ -126,32 +84,16 @@ pub fn order_read(
     widths: &[u16],
     guards: &[u8],
     starts: &mut [u16],
-) -> OrderRead
-    ensures { left result starts.new
+) -> Result<(), Refusal>
+    ensures { left (order_read_of result) starts.new
         ≡ order_reading anchor text.now n labels.now
         (lend widths.now guards.now) starts.old }
 {
-    let fault = lent_fault(anchor, n, labels, widths, guards, starts);
-    if fault.number != 0 {
-        return OrderRead {
-            number: fault.number,
-            place: fault.place,
-        };
-    }
-    let mut table = [0u16; rules::PATHS];
-    copy(starts, &mut table);
+    check_lent(anchor, n, labels, widths, guards, starts)?;
     let low = grid::counted(anchor);
-    match order_reader::order_part(text, n, low, labels, widths, &mut table) {
-        Part::Halt(number, line) => OrderRead {
-            number,
-            place: line,
-        },
-        Part::Over(_) => {
-            copy(&table, starts);
-            OrderRead {
-                number: 0,
-                place: 0,
-            }
-        }
-    }
+    let mut table = [0u16; rules::PATHS];
+    table.copy_from_slice(starts);
+    order_reader::order_part(text, n, low, labels, widths, &mut table)?;
+    starts.copy_from_slice(&table);
+    Ok(())
 }

@@ -13,18 +13,12 @@ ghost use Rattle.rules.specs.Program.{printed};
 ghost use Rattle.printing.specs.Made.{noted};
 ghost use Rattle.console.specs.Made.{WroteFrom, WroteOf};
 
+use sheet::Tables;
 use std::io::{Read, Write};
-use text::Next;
 
 // Whether `--verbose` is the one argument.
 fn is_verbose(count: usize, word: &[u8]) -> bool {
-    if count != 1 {
-        return false;
-    }
-    match text::word(word, 0, b"--verbose") {
-        Next::At(end) => end == word.len(),
-        Next::Missing => false,
-    }
+    count == 1 && word == b"--verbose".as_slice()
 }
 
 // Prints what is made of the input. Where that is the first 65,536 bytes of a sheet, it is what is made of that sheet.
@@ -33,21 +27,10 @@ fn respond<W: Write, E: Write>(out: &mut W, errors: &mut E, input: &[u8], verbos
     ensures told { IsTrue result → IsTrue verbose
         → WroteFrom noted input.now (E.contents errors.old) (E.contents errors.new) }
 {
-    let mut labels = [0u8; rules::LABELS];
-    let mut widths = [0u16; rules::PATHS];
-    let mut guards = [0u8; rules::CELLS];
-    let mut starts = [0u16; rules::PATHS];
+    let mut tables = Tables::new();
     let mut text = [0u8; rules::SHEET_MOST];
     let mut line = [0u8; 80];
-    let made = printing::answer(
-        input,
-        &mut labels,
-        &mut widths,
-        &mut guards,
-        &mut starts,
-        &mut text,
-        &mut line,
-    );
+    let made = printing::answer(input, &mut tables, &mut text, &mut line);
     let m = made.out;
     let e = made.line;
     let is_printed = console::print(out, errors, &text[..m], b"plan: standard output");

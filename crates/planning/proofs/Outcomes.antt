@@ -1,170 +1,158 @@
 -- From what the inner functions answer to what the calls promise. Assumes nothing.
-use Prim.Native.Nat.{ℕ, ◌≤◌}
-use mathlib.Core.Path.{◌≡◌, sym, ap, subst, ◌∙◌}
-use mathlib.Core.Logic.{◌≢◌}
-use mathlib.Core.Bool.{true, false, not}
-use mathlib.Core.List.{List}
-use native.Mathlib.Omega.{arith}
-use lib.ListN.{length}
-use lib.Dec.{ltb}
-use borrow.Author.Tests.{ltb-false}
-use Rattle.rules.specs.declared.Fault.{Fault}
-use Rattle.rules.specs.declared.Planned.{Planned}
-use Rattle.rules.specs.declared.Floored.{Floored}
+use Rattle.std.specs.Prelude.{ℕ, ◌≤◌, ◌≡◌, not, Option, None, Some, List, Ok, Err, length, ltb}
+use Rattle.std.specs.Option.{ok_or}
+use Rattle.std.proofs.Common.{sym, ap, subst, ◌∙◌, arith, ltb-false}
+use Rattle.rules.specs.declared.Refusal.{Refusal}
 use Rattle.rules.specs.Tables.{at, Lent}
-use Rattle.rules.specs.Limits.{Network, KeptFrom}
+use Rattle.rules.specs.Limits.{KeptFrom}
 use Rattle.rules.specs.Plan.{net_of}
 use Rattle.rules.specs.Packing.{lowest}
 use Rattle.rules.specs.Sides.{is_high, has_sides, two_sided}
 use Rattle.rules.specs.Planning.{Run, start_next, greedy, improved}
 use Rattle.rules.specs.Floor.{floor}
-use Rattle.rules.specs.Numbers.{fault, ◌or_else◌, size_fault, plan_sizes, lent_fault, pack_fault, sides_fault, rounds_fault, two_sides_fault, plan_fault, improve_fault, floor_fault}
-use Rattle.rules.specs.Calls.{left, siding, refused_planned, done_planned, done_improved, improving, done_plan, planning, flooring}
-use Rattle.table_laws.specs.Faults.{refuse_bad, refuse_clear, or_clear, or_stop, size_clear}
-use Rattle.table_laws.specs.Chains.{number_of, lent_clear}
+use Rattle.rules.specs.Numbers.{fault, no_fault, size_fault, lent_fault, sides_fault, rounds_fault, two_sides_fault, pack_fault, improve_fault, plan_sizes, plan_fault, list_fault, floor_fault}
+use Rattle.rules.specs.declared.Planned.{Planned}
+use Rattle.rules.specs.Calls.{Left, left, siding, refused_planned, done_planned, done_improved, improving, done_plan, planning, flooring}
+use Rattle.rules.specs.Told.{refused, sided_of, floored_of}
+use Rattle.table_laws.specs.Faults.{refuse_bad, refuse_not, refuse_clear, size_clear}
+use Rattle.table_laws.specs.Chains.{lent_clear}
+use Rattle.table_laws.specs.Results.{clear_none, ok_on, unless_err, unless_ok}
 use Rattle.plan_laws.specs.Sided.{sided_length, sided_order}
 use Rattle.plan_laws.specs.Arranged.{arranged_order, arranged_length}
-use Rattle.plan_laws.specs.Answers.{unless_done, unless_refused, Packable, pack_clear, Sidable, clear_sides, sidable_siding, Plannable, plan_clear, Floorable, floor_clear}
+use Rattle.plan_laws.specs.Answers.{Packable, pack_clear, Plannable, plan_clear, Floorable, floor_clear}
 use Rattle.plan_laws.specs.Engine.{packed_over}
 use Rattle.plan_laws.specs.Runs.{run_packable}
-use Rattle.sides.specs.declared.Split.{Split}
-use Rattle.sides.specs.Split.{SplitIs, split_yes, split_no}
+use Rattle.sides.specs.Split.{SplitIs}
 use Rattle.rounds.specs.declared.Standing.{Standing}
 use Rattle.rounds.specs.Standing.{run_of}
 use Rattle.planning.specs.Chosen.{Chosen}
 
--- the two-sided call
-module _ (n : ℕ) (lent : Lent) (order : List ℕ) (f : Fault) (e : f ≡ lent_fault n lent (size_fault order 128)) where
-  pub two_refused : f.number ≢ 0 → left (record { number = f.number; place = f.place; low = 0 }) order ≡ siding n lent order
-  unfolding siding two_sides_fault
-  two_refused h =
-      let g : f ≡ two_sides_fault n lent order = or_stop (sides_fault n (net_of lent)) e h in
-      sym (unless_refused (two_sides_fault n lent order) _ _ (λ z. h (ap (λ (x : Fault). x.number) g ∙ z)) ∙ rw (← g))
+-- the two-sided call: 9 is its last test
+module _ (n : ℕ) (l : Lent) (order : List ℕ) (e : no_fault ≡ lent_fault n l (size_fault order 128)) where
+  pub sides_room : n ≤ length order
+  sides_room =
+      let w = lent_clear n l (size_fault order 128) (clear_none e) in
+      omega (arith, w.0.few, size_clear order 128 w.1)
 
-  pub two_clear : f.number ≡ 0 → Sidable n lent order
-  two_clear z =
-      let w = lent_clear n lent (size_fault order 128) (number_of e z) in
-      record { network = w.0; order_size = size_clear order 128 w.1 }
+  sides_told : (split : Option ℕ) (after : List ℕ) → SplitIs (net_of l) n order split after → (r : Refusal) → refused r ≡ fault 9 0 → left (sided_of (ok_or split r)) after ≡ siding n l order
+  unfolding siding two_sides_fault sides_fault
+  sides_told None after s r g =
+      rw s.1 (sym (unless_err _ _ r (ok_on _ e (g ∙ sym (refuse_bad (not (has_sides (net_of l) n)) 9 0 (ap not s.0))))))
+  sides_told (Some low) after s r g =
+      rw (s.1, s.2) (sym (unless_ok _ _ (ok_on _ e (sym (refuse_not (not (has_sides (net_of l) n)) 9 0 (ap not s.0))))))
 
-  module _ (z : f.number ≡ 0) (split : Split) (after : List ℕ) (d : SplitIs (net_of lent) n order split after) where
-    pub two_done : split.found ≡ true → left (record { number = 0; place = 0; low = split.low }) after ≡ siding n lent order
-    two_done h =
-        let g = split_yes (net_of lent) n order split after d h in
-        rw (g.1.0, g.1.1) (sym (sidable_siding n lent order (two_clear z) g.0))
+  pub sides_done : (m : ℕ) (k : Lent) → (m ≡ n) × (k ≡ l) → (split : Option ℕ) (after : List ℕ) → SplitIs (net_of k) m order split after → (r : Refusal) → refused r ≡ fault 9 0
+      → left (sided_of (ok_or split r)) after ≡ siding n l order
+  sides_done m k d split after s = sides_told split after (rw (d.0, d.1) at s)
 
-    pub two_none : split.found ≡ false → left (record { number = 9; place = 0; low = 0 }) after ≡ siding n lent order
-    unfolding siding sides_fault
-    two_none h =
-        let q = split_no (net_of lent) n order split after d h in
-        let g : two_sides_fault n lent order ≡ fault 9 0 = clear_sides n lent order (two_clear z) ∙ refuse_bad (not (has_sides (net_of lent) n)) 9 0 (ap not q.0) in
-        rw q.1 (sym (unless_refused (two_sides_fault n lent order) _ _ (λ y. omega (arith, ap (λ (x : Fault). x.number) g)) ∙ rw g))
+-- 10 is not refused
+pub few_rounds : (rounds : ℕ) → no_fault ≡ rounds_fault rounds → rounds ≤ 10000
+unfolding rounds_fault
+few_rounds rounds e = ltb-false 10000 rounds (refuse_clear (ltb 10000 rounds) 10 0 (omega arith) (clear_none e))
 
--- what the rounds have left in the table of starts makes no difference
-pub packed_over_used : (n : ℕ) (lent : Lent) (order starts used : List ℕ) (kept : ℕ) → Packable n lent order starts → KeptFrom n starts used
-    → done_planned (net_of lent) n order used kept ≡ done_planned (net_of lent) n order starts kept
-unfolding done_planned
-packed_over_used n lent order starts used kept p k =
-    rw (packed_over (net_of lent) n (at order) p.whole starts used (omega (arith, p.network.few, p.starts_size)) k)
+module _ (n : ℕ) (l : Lent) (order starts : List ℕ) (p : Packable n l order starts) where
+  -- what the rounds have left in the table of starts makes no difference
+  module _ (used : List ℕ) (k : KeptFrom n starts used) where
+    pub packable_used : Packable n l order used
+    packable_used = record { network = p.network; order_size = p.order_size; starts_size = k.size ∙ p.starts_size; whole = p.whole }
 
-pub packable_used : (n : ℕ) (lent : Lent) (order starts used : List ℕ) → Packable n lent order starts → KeptFrom n starts used → Packable n lent order used
-packable_used n lent order starts used p k = record { network = p.network; order_size = p.order_size; starts_size = k.size ∙ p.starts_size; whole = p.whole }
+    pub packed_over_used : (kept : ℕ) → done_planned (net_of l) n order used kept ≡ done_planned (net_of l) n order starts kept
+    unfolding done_planned
+    packed_over_used kept = rw (packed_over (net_of l) n (at order) p.whole starts used (omega (arith, p.network.few, p.starts_size)) k)
 
--- improving
-module _ (n : ℕ) (lent : Lent) (order starts : List ℕ) (seed rounds : ℕ) where
-  pub improved_packable : Packable n lent order starts → (s : Standing) (after : List ℕ) → run_of s after ≡ improved (net_of lent) n (lowest (net_of lent)) starts order seed rounds
-      → Packable n lent after starts
-  improved_packable p s after e =
-      subst (λ (o : List ℕ). Packable n lent o starts) (sym (ap (λ (r : Run). r.order) e)) (run_packable n lent order starts seed p rounds)
+  -- improving
+  module _ (seed rounds : ℕ) (s : Standing) (after : List ℕ) (e : run_of s after ≡ improved (net_of l) n (lowest (net_of l)) starts order seed rounds) where
+    pub improved_packable : Packable n l after starts
+    improved_packable = subst (λ (o : List ℕ). Packable n l o starts) (sym (ap (λ (r : Run). r.order) e)) (run_packable n l order starts seed p rounds)
 
-  pub improved_done : (s : Standing) (after : List ℕ) → run_of s after ≡ improved (net_of lent) n (lowest (net_of lent)) starts order seed rounds
-      → done_planned (net_of lent) n after starts s.kept ≡ done_improved (net_of lent) n order starts seed rounds
-  unfolding done_improved
-  improved_done s after e = rw (← e)
+    pub improved_done : done_planned (net_of l) n after starts s.kept ≡ done_improved (net_of l) n order starts seed rounds
+    unfolding done_improved
+    improved_done = rw (← e)
 
-  module _ (f g : Fault) (e : f ≡ (g or_else rounds_fault rounds)) (d : g ≡ pack_fault n lent order starts) where
-    tested : f ≡ improve_fault n lent order starts rounds
-    unfolding improve_fault
-    tested = rw d at e
+-- improving, the tests being passed
+module _ (n : ℕ) (l : Lent) (order starts : List ℕ) (seed rounds : ℕ) (e : no_fault ≡ pack_fault n l order starts) (f : no_fault ≡ rounds_fault rounds) (m : ℕ) (tested : Lent) (d : (m ≡ n) × (tested ≡ l)) where
+  pub improve_ready : Packable m tested order starts × (rounds ≤ 10000)
+  improve_ready = (rw (d.0, d.1) (pack_clear n l order starts (clear_none e)), few_rounds rounds f)
 
-    pub improve_refused : f.number ≢ 0 → left (record { number = f.number; place = f.place; highest = 0; kept = 0 }) (order, starts) ≡ improving n lent order starts seed rounds
-    unfolding improving refused_planned
-    improve_refused h = rw (← tested) (sym (unless_refused f (refused_planned order starts) _ h))
+  module _ (s : Standing) (after used : List ℕ) (q : (table : List ℕ) → length table ≡ 128 → run_of s after ≡ improved (net_of tested) m (lowest (net_of tested)) table order seed rounds) (k : KeptFrom m starts used) where
+    run_is : run_of s after ≡ improved (net_of tested) m (lowest (net_of tested)) starts order seed rounds
+    run_is = q starts improve_ready.0.starts_size
 
-    pub improve_clear : f.number ≡ 0 → Packable n lent order starts × (rounds ≤ 10000)
-    unfolding rounds_fault
-    improve_clear z =
-        let a = or_clear _ _ (number_of e z) in
-        (pack_clear n lent order starts (number_of d a.0), ltb-false 10000 rounds (refuse_clear (ltb 10000 rounds) 10 0 (omega arith) a.1))
+    after_packable : Packable m tested after starts
+    after_packable = improved_packable m tested order starts improve_ready.0 seed rounds s after run_is
 
-    pub improve_done : f.number ≡ 0 → (r : Planned) (t : List ℕ × List ℕ) → left r t ≡ done_improved (net_of lent) n order starts seed rounds → left r t ≡ improving n lent order starts seed rounds
-    unfolding improving
-    improve_done z r t h = h ∙ rw (← tested) (sym (unless_done f (refused_planned order starts) _ z))
+    pub improve_packable : Packable m tested after used
+    improve_packable = packable_used m tested after starts after_packable used k
 
--- planning
-module _ (n : ℕ) (lent : Lent) (order after starts : List ℕ) (w : Network n lent) (full : length order ≡ 128) (space : length starts ≡ 128) where
-  pub sided_packable : after ≡ two_sided n (is_high (net_of lent) n) order → Packable n lent after starts
-  sided_packable e =
-      rw e record {
-        network = w;
-        order_size = sided_length n (is_high (net_of lent) n) order (omega (arith, w.few)) ∙ full;
-        starts_size = space;
-        whole = sided_order n (is_high (net_of lent) n) order (omega (arith, w.few));
-      }
+    pub improve_done : (r : Left Planned (List ℕ × List ℕ)) → r ≡ done_planned (net_of tested) m after used s.kept → r ≡ improving n l order starts seed rounds
+    unfolding improving improve_fault
+    improve_done r h =
+        let done : done_improved (net_of tested) m order starts seed rounds ≡ improving n l order starts seed rounds = rw (d.0, d.1) (sym (unless_ok (refused_planned order starts) _ (ok_on (rounds_fault rounds) e f))) in
+        h ∙ packed_over_used m tested after starts after_packable used k s.kept ∙ improved_done m tested order starts improve_ready.0 seed rounds s after run_is ∙ done
 
-  pub greedy_packable_lem : after ≡ greedy (lowest (net_of lent)) n starts order n → Packable n lent after starts
-  greedy_packable_lem e =
-      rw e record {
-        network = w;
-        order_size = arranged_length (start_next (lowest (net_of lent)) starts) n order (omega (arith, w.few)) n ∙ full;
-        starts_size = space;
-        whole = arranged_order (start_next (lowest (net_of lent)) starts) n order (omega (arith, w.few)) n (omega arith);
-      }
+-- planning: the choice by the sides
+module _ (n : ℕ) (l : Lent) (order starts : List ℕ) (seed rounds : ℕ) (p : Plannable n l order starts seed rounds) where
+  room : n ≤ length order
+  room = omega (arith, p.order_size, p.network.few)
 
-module _ (n : ℕ) (lent : Lent) (order starts : List ℕ) (seed rounds : ℕ) where
-  -- the choice by the sides
-  module _ (w : Network n lent) (full : length order ≡ 128) (space : length starts ≡ 128) (split : Split) (after : List ℕ) (d : SplitIs (net_of lent) n order split after) where
-    pub chosen_sided : split.found ≡ true → Chosen n lent order starts seed rounds 0 after
+  sided_packable : Packable n l (two_sided n (is_high (net_of l) n) order) starts
+  sided_packable = record {
+    network = p.network;
+    order_size = sided_length n (is_high (net_of l) n) order room ∙ p.order_size;
+    starts_size = p.starts_size;
+    whole = sided_order n (is_high (net_of l) n) order room;
+  }
+
+  greedy_packable_lem : Packable n l (greedy (lowest (net_of l)) n starts order n) starts
+  greedy_packable_lem = record {
+    network = p.network;
+    order_size = arranged_length (start_next (lowest (net_of l)) starts) n order room n ∙ p.order_size;
+    starts_size = p.starts_size;
+    whole = arranged_order (start_next (lowest (net_of l)) starts) n order room n (omega arith);
+  }
+
+  pub chosen_sided : (after : List ℕ) (low : ℕ) → SplitIs (net_of l) n order (Some low) after → Chosen n l order starts seed rounds 0 after
+  unfolding done_plan
+  chosen_sided after low s = rw s.2 record { packable = sided_packable; done = rw s.0 }
+
+  module _ (after : List ℕ) (s : SplitIs (net_of l) n order None after) (first : List ℕ) (e : first ≡ greedy (lowest (net_of l)) n starts after n) where
+    greedy_first : first ≡ greedy (lowest (net_of l)) n starts order n
+    greedy_first = rw s.1 at e
+
+    pub greedy_ready : Packable n l first starts
+    greedy_ready = rw greedy_first greedy_packable_lem
+
+    pub chosen_greedy : (r : Standing) (last : List ℕ) → run_of r last ≡ improved (net_of l) n (lowest (net_of l)) starts first seed rounds → Chosen n l order starts seed rounds r.kept last
     unfolding done_plan
-    chosen_sided h =
-        let g = split_yes (net_of lent) n order split after d h in
-        record { packable = sided_packable n lent order after starts w full space g.1.1; done = rw (g.0, g.1.1) }
+    chosen_greedy r last q = record {
+      packable = improved_packable n l first starts greedy_ready seed rounds r last q;
+      done = improved_done n l first starts greedy_ready seed rounds r last q ∙ rw (s.0, ← greedy_first);
+    }
 
-    pub chosen_greedy : split.found ≡ false → (first last : List ℕ) (s : Standing) → first ≡ greedy (lowest (net_of lent)) n starts after n
-        → run_of s last ≡ improved (net_of lent) n (lowest (net_of lent)) starts first seed rounds → Chosen n lent order starts seed rounds s.kept last
-    unfolding done_plan
-    chosen_greedy h first last s e r =
-        let g = split_no (net_of lent) n order split after d h in
-        let q : first ≡ greedy (lowest (net_of lent)) n starts order n = rw g.1 at e in
-        record {
-          packable = improved_packable n lent first starts seed rounds (greedy_packable_lem n lent order first starts w full space q) s last r;
-          done = improved_done n lent first starts seed rounds s last r ∙ rw (g.0, ← q);
-        }
+-- planning, the tests being passed
+module _ (n : ℕ) (l : Lent) (order starts : List ℕ) (seed rounds : ℕ) (e : no_fault ≡ lent_fault n l (plan_sizes order starts)) (f : no_fault ≡ rounds_fault rounds) (m : ℕ) (tested : Lent) (d : (m ≡ n) × (tested ≡ l)) where
+  pub plan_ready : Plannable m tested order starts seed rounds
+  unfolding plan_fault
+  plan_ready = rw (d.0, d.1) (plan_clear n l order starts seed rounds (clear_none (ok_on (rounds_fault rounds) e f)))
 
-  module _ (f g s : Fault) (e : f ≡ (g or_else rounds_fault rounds)) (d : g ≡ lent_fault n lent s) (q : s ≡ plan_sizes order starts) where
-    accepted : f ≡ plan_fault n lent order starts rounds
-    unfolding plan_fault
-    accepted = rw (d, q) at e
-
-    pub plan_refused : f.number ≢ 0 → left (record { number = f.number; place = f.place; highest = 0; kept = 0 }) (order, starts) ≡ planning n lent order starts seed rounds
-    unfolding planning refused_planned
-    plan_refused h = rw (← accepted) (sym (unless_refused f (refused_planned order starts) _ h))
-
-    pub plannable : f.number ≡ 0 → Plannable n lent order starts seed rounds
-    plannable z = plan_clear n lent order starts seed rounds (number_of accepted z)
-
-    pub plan_done : f.number ≡ 0 → (r : Planned) (t : List ℕ × List ℕ) → left r t ≡ done_plan (net_of lent) n order starts seed rounds → left r t ≡ planning n lent order starts seed rounds
-    unfolding planning
-    plan_done z r t h = h ∙ rw (← accepted) (sym (unless_done f (refused_planned order starts) _ z))
+  module _ (kept : ℕ) (after used : List ℕ) (x : Chosen m tested order starts seed rounds kept after) (k : KeptFrom m starts used) where
+    pub plan_done : (r : Left Planned (List ℕ × List ℕ)) → r ≡ done_planned (net_of tested) m after used kept → r ≡ planning n l order starts seed rounds
+    unfolding planning plan_fault
+    plan_done r h =
+        let done : done_plan (net_of tested) m order starts seed rounds ≡ planning n l order starts seed rounds = rw (d.0, d.1) (sym (unless_ok (refused_planned order starts) _ (ok_on (rounds_fault rounds) e f))) in
+        h ∙ packed_over_used m tested after starts x.packable used k kept ∙ x.done ∙ done
 
 -- the floor
-module _ (n : ℕ) (lent : Lent) (list : List ℕ) (f : Fault) (e : f ≡ floor_fault n lent list) where
-  pub floor_refused : f.number ≢ 0 → ◌≡◌ {A = Floored} (record { number = f.number; place = f.place; floor = 0 }) (flooring n lent list)
-  unfolding flooring
-  floor_refused h = rw (← e) (sym (unless_refused f _ _ h))
+module _ (n : ℕ) (l : Lent) (list : List ℕ) (e : no_fault ≡ lent_fault n l no_fault) (m : ℕ) (tested : Lent) (d : (m ≡ n) × (tested ≡ l)) where
+  pub floor_refused : (r : Refusal) → refused r ≡ list_fault m (net_of tested) list → floored_of (Err r) ≡ flooring n l list
+  unfolding flooring floor_fault
+  floor_refused r f = sym (unless_err _ _ r (ok_on _ e (rw (d.0, d.1) at f)))
 
-  pub floorable : f.number ≡ 0 → Floorable n lent list
-  floorable z = floor_clear n lent list (number_of e z)
+  module _ (f : no_fault ≡ list_fault m (net_of tested) list) where
+    pub floor_ready : Floorable m tested list
+    unfolding floor_fault
+    floor_ready = rw (d.0, d.1) (floor_clear n l list (clear_none (ok_on _ e (rw (d.0, d.1) at f))))
 
-  pub floor_done : f.number ≡ 0 → (x : ℕ) → x ≡ floor (net_of lent) (at list) (length list) → ◌≡◌ {A = Floored} (record { number = 0; place = 0; floor = x }) (flooring n lent list)
-  unfolding flooring
-  floor_done z x h = rw (h, ← e) (sym (unless_done f _ _ z))
+    pub floor_done : (x : ℕ) → x ≡ floor (net_of tested) (at list) (length list) → floored_of (Ok x) ≡ flooring n l list
+    unfolding flooring floor_fault
+    floor_done x h = rw (h, d.1) (sym (unless_ok _ _ (ok_on _ e (rw (d.0, d.1) at f))))

@@ -10,125 +10,134 @@ ghost use Rattle.rules.specs.Asking.{stands_text, link_text, end_text, reason_te
 ghost use Rattle.spelling.specs.Says.{Wrote};
 ghost use Rattle.reason_lines.specs.Told.{Told, Chained, held_text, free_text};
 
+use spelling::{Pen, Sink};
+
 // Puts where path k stands. No guard is asked for that.
-fn put_stands(
-    text: &mut [u8],
-    place: usize,
-    labels: &[u8],
-    widths: &[u16],
-    starts: &[u16],
-    k: usize,
-) -> usize
-    requires { Told labels.now widths.now starts.now k × (place + 33 ≤ length text.old) }
-    ensures wrote { Wrote text.old place
-        (stands_text labels.now (net_of (lend widths.now [])) (at starts.now) k) result
-        text.new }
-    ensures upper_bound { result ≤ place + 33 }
+#[tactic(auto, using(sheet_laws::specs::Writes::label_short))]
+fn put_stands<S: Sink>(sink: &mut S, labels: &[u8], widths: &[u16], starts: &[u16], k: usize)
+    requires { Told labels.now widths.now starts.now k × (33 ≤ S.room sink.old) }
+    ensures wrote { S.takes sink.old
+        (stands_text labels.now (net_of (lend widths.now [])) (at starts.now) k) sink.new }
+    ensures upper_bound { S.room sink.old ≤ S.room sink.new + 33 }
 {
-    let s = starts[k] as usize;
-    let e = s + widths[k] as usize - 1;
-    let p = spelling::put_label(text, place, labels, k);
-    phrases::put_block(text, p, s, e)
+    let s = usize::from(starts[k]);
+    let e = s + usize::from(widths[k]) - 1;
+    sink.put_label(labels, k);
+    phrases::put_block(sink, s, e);
 }
 
 // Puts a link of a chain (RULES 25): path j, which holds path k up, and the guard of the two.
-fn put_link(
-    text: &mut [u8],
-    place: usize,
+fn put_link<S: Sink>(
+    sink: &mut S,
     labels: &[u8],
     widths: &[u16],
     guards: &[u8],
     starts: &[u16],
     k: usize,
     j: usize,
-) -> usize
+)
     requires { Told labels.now widths.now starts.now j × (k < 128) × (length guards.now ≡ 16384)
-        × (place + 68 ≤ length text.old) }
-    ensures wrote { Wrote text.old place
-        (link_text labels.now (net_of (lend widths.now guards.now))
-        (at starts.now) k j) result text.new }
-    ensures upper_bound { result ≤ place + 68 }
+        × (68 ≤ S.room sink.old) }
+    ensures wrote { S.takes sink.old
+        (link_text labels.now (net_of (lend widths.now guards.now)) (at starts.now) k j) sink.new }
+    ensures upper_bound { S.room sink.old ≤ S.room sink.new + 68 }
 {
-    let g = guards[rules::PATHS * j + k] as usize;
-    let p = spelling::put_word(text, place, b"Below it ");
-    let q = put_stands(text, p, labels, widths, starts, j);
-    let e = phrases::put_part(text, q, b", and the guard is ", g);
-    spelling::put_word(text, e, b".\n")
+    let guard = usize::from(guards[rules::PATHS * j + k]);
+    sink.put_word(b"Below it ");
+    put_stands(sink, labels, widths, starts, j);
+    phrases::put_part(sink, b", and the guard is ", guard);
+    sink.put_word(b".\n");
 }
 
 // Puts the links of a chain: each path but the first holds up the one before it.
-fn put_links(
-    text: &mut [u8],
-    place: usize,
+fn put_links<S: Sink>(
+    sink: &mut S,
     labels: &[u8],
     widths: &[u16],
     guards: &[u8],
     starts: &[u16],
     chain: &[u8],
-) -> usize
+)
     requires { Chained labels.now widths.now guards.now starts.now chain.now
-        × (place + 68 * (length chain.now - 1) ≤ length text.old) }
-    ensures wrote { Wrote text.old place
+        × (68 * (length chain.now - 1) ≤ S.room sink.old) }
+    ensures wrote { S.takes sink.old
         (join_from (length chain.now - 1) 0 (λ i. link_text labels.now
         (net_of (lend widths.now guards.now)) (at starts.now)
-        (at chain.now i) (at chain.now (i + 1)))) result text.new }
-    ensures upper_bound { result ≤ place + 68 * (length chain.now - 1) }
+        (at chain.now i) (at chain.now (i + 1)))) sink.new }
+    ensures upper_bound { S.room sink.old ≤ S.room sink.new + 68 * (length chain.now - 1) }
 {
-    let last = chain.len() - 1;
-    let mut p = place;
-    let mut i = 0;
-    while i < last {
-        let k = chain[i] as usize;
-        let j = chain[i + 1] as usize;
-        p = put_link(text, p, labels, widths, guards, starts, k, j);
-        i += 1;
+    for i in 0..chain.len() - 1 {
+        let k = usize::from(chain[i]);
+        let j = usize::from(chain[i + 1]);
+        put_link(sink, labels, widths, guards, starts, k, j);
     }
-    p
 }
 
 // Puts the end of a chain whose last path is in slot 1: path k, its first, cannot come down in this order.
-fn put_held(text: &mut [u8], place: usize, labels: &[u8], k: usize) -> usize
-    requires { (8 * k + 8 ≤ length labels.now) × (place + 59 ≤ length text.old) }
-    ensures wrote { Wrote text.old place (held_text labels.now k) result text.new }
-    ensures upper_bound { result ≤ place + 59 }
+fn put_held<S: Sink>(sink: &mut S, labels: &[u8], k: usize)
+    requires { (8 * k + 8 ≤ length labels.now) × (59 ≤ S.room sink.old) }
+    ensures wrote { S.takes sink.old (held_text labels.now k) sink.new }
+    ensures upper_bound { S.room sink.old ≤ S.room sink.new + 59 }
 {
-    let p = spelling::put_word(text, place, b" is in slot 1, so ");
-    phrases::put_named(text, p, labels, k, b" cannot come down in this order.\n")
+    sink.put_word(b" is in slot 1, so ");
+    phrases::put_named(sink, labels, k, b" cannot come down in this order.\n");
 }
 
 // Puts the end of a chain whose last path can come down.
-fn put_free(text: &mut [u8], place: usize, d: usize) -> usize
-    requires { (d < 100000) × (place + 28 ≤ length text.old) }
-    ensures wrote { Wrote text.old place (free_text d) result text.new }
-    ensures upper_bound { result ≤ place + 28 }
+fn put_free<S: Sink>(sink: &mut S, d: usize)
+    requires { (d < 100000) × (28 ≤ S.room sink.old) }
+    ensures wrote { S.takes sink.old (free_text d) sink.new }
+    ensures upper_bound { S.room sink.old ≤ S.room sink.new + 28 }
 {
-    let p = spelling::put_word(text, place, b" can come down ");
-    let q = phrases::put_slots(text, p, d);
-    spelling::put_word(text, q, b".\n")
+    sink.put_word(b" can come down ");
+    phrases::put_slots(sink, d);
+    sink.put_word(b".\n");
 }
 
 // Puts where a chain ends: its last path can come down by d slots, or stands in slot 1. A chain of one path names
 // it once.
-fn put_end(text: &mut [u8], place: usize, labels: &[u8], chain: &[u8], d: usize) -> usize
+#[tactic(auto, using(sheet_laws::specs::Writes::label_short))]
+fn put_end<S: Sink>(sink: &mut S, labels: &[u8], chain: &[u8], d: usize)
     requires { (length labels.now ≡ 1024) × (1 ≤ length chain.now)
         × ((i : ℕ) → i < length chain.now → at chain.now i < 128) × (d < 100000)
-        × (place + 67 ≤ length text.old) }
-    ensures wrote { Wrote text.old place
-        (end_text labels.now chain.now d) result text.new }
-    ensures upper_bound { result ≤ place + 67 }
+        × (67 ≤ S.room sink.old) }
+    ensures wrote { S.takes sink.old (end_text labels.now chain.now d) sink.new }
+    ensures upper_bound { S.room sink.old ≤ S.room sink.new + 67 }
 {
-    let k = chain[chain.len() - 1] as usize;
-    let p = spelling::put_label(text, place, labels, k);
+    sink.put_label(labels, usize::from(chain[chain.len() - 1]));
     if d != 0 {
-        return put_free(text, p, d);
+        put_free(sink, d);
+    } else if chain.len() == 1 {
+        sink.put_word(b" is in slot 1 and cannot come down.\n");
+    } else {
+        put_held(sink, labels, usize::from(chain[0]));
     }
-    if chain.len() == 1 {
-        return spelling::put_word(text, p, b" is in slot 1 and cannot come down.\n");
-    }
-    put_held(text, p, labels, chain[0] as usize)
 }
 
 // Puts a whole reason (RULES 25): where the first path of the chain stands, each link, and the end.
+fn put_chain<S: Sink>(
+    sink: &mut S,
+    labels: &[u8],
+    widths: &[u16],
+    guards: &[u8],
+    starts: &[u16],
+    chain: &[u8],
+    d: usize,
+)
+    requires { Chained labels.now widths.now guards.now starts.now chain.now × (d < 100000)
+        × (9000 ≤ S.room sink.old) }
+    ensures wrote { S.takes sink.old
+        (reason_text labels.now (net_of (lend widths.now guards.now))
+        (at starts.now) chain.now d) sink.new }
+    ensures upper_bound { S.room sink.old ≤ S.room sink.new + 9000 }
+{
+    put_stands(sink, labels, widths, starts, usize::from(chain[0]));
+    sink.put_word(b".\n");
+    put_links(sink, labels, widths, guards, starts, chain);
+    put_end(sink, labels, chain, d);
+}
+
+// The text of a whole reason.
 pub fn put_reason(
     text: &mut [u8],
     labels: &[u8],
@@ -145,9 +154,7 @@ pub fn put_reason(
         (at starts.now) chain.now d) result text.new }
     ensures upper_bound { result ≤ 9000 }
 {
-    let k = chain[0] as usize;
-    let p = put_stands(text, 0, labels, widths, starts, k);
-    let q = spelling::put_word(text, p, b".\n");
-    let e = put_links(text, q, labels, widths, guards, starts, chain);
-    put_end(text, e, labels, chain, d)
+    let mut pen = Pen::new(text);
+    put_chain(&mut pen, labels, widths, guards, starts, chain, d);
+    pen.place()
 }

@@ -15,30 +15,35 @@ use Rattle.rounds.specs.Standing.{run_of, highest_of}
 -- a swap of two places below n leaves an order
 pub swap_packable : (n : ℕ) (lent : Lent) (order need after : List ℕ) (a b : ℕ) → Packable n lent order need → a < n → b < n → after ≡ swapped order a b → Packable n lent after need
 swap_packable n lent order need after a b t la lb e =
+    let room : n ≤ length order = omega (arith, t.order_size, t.network.few) in
     rw e record {
       network = t.network;
       order_size = swapped_length order a b ∙ t.order_size;
       starts_size = t.starts_size;
-      whole = swapped_order order n a b (omega (arith, t.order_size, t.network.few)) la lb t.whole;
+      whole = swapped_order order n a b room la lb t.whole;
     }
 
 -- one round: its swap is kept, or undone
-module _ (top : List ℕ → ℕ) (n : ℕ) (s : Standing) (order after : List ℕ) (x y a b h : ℕ) (ex : x ≡ draw s.state) (ey : y ≡ draw x) (ea : a ≡ drawn_place n x) (eb : b ≡ drawn_place n y) (e : after ≡ swapped order a b) (eh : h ≡ top after) where
+module _ (top : List ℕ → ℕ) (n : ℕ) (s : Standing) (order after : List ℕ) (x y a b h : ℕ) (ex : x ≡ draw s.state) (ey : y ≡ draw x) (ea : a ≡ drawn_place n x) (eb : b ≡ drawn_place n y) (la : a < length order) (lb : b < length order) (e : after ≡ swapped order a b) (eh : h ≡ top after) where
+  after_is : after ≡ swapped order a b
+  after_is = e
+
   state_is : state_after (run_of s order) ≡ y
   unfolding state_after
   state_is = rw (← ex) (sym ey)
 
   tried_is : tried n (run_of s order) ≡ after
   unfolding tried
-  tried_is = rw (state_is, ← ex, ← ea, ← eb) (sym e)
+  tried_is = rw (state_is, ← ex, ← ea, ← eb) (sym after_is)
 
   pub round_kept : h < s.highest → run_of (record { state = y; highest = h; kept = s.kept + 1 }) after ≡ round top n (run_of s order)
   unfolding round
   round_kept l = rw (state_is, tried_is, ← eh, lt-ltb h s.highest l, add-one s.kept)
 
-  pub round_undone : (back : List ℕ) → a < length order → b < length order → back ≡ swapped after a b → s.highest ≤ h → run_of (record { state = y; highest = s.highest; kept = s.kept }) back ≡ round top n (run_of s order)
+  pub round_undone : (back : List ℕ) → back ≡ swapped after a b → s.highest ≤ h → run_of (record { state = y; highest = s.highest; kept = s.kept }) back ≡ round top n (run_of s order)
   unfolding round
-  round_undone back la lb f l = rw (state_is, tried_is, ← eh, le-ltb h s.highest l, f, e, swapped_back order a b la lb)
+  round_undone back f l =
+      rw (state_is, tried_is, ← eh, le-ltb h s.highest l, f, after_is, swapped_back order a b la lb)
 
 -- any number of rounds
 pub round_more : (top : List ℕ → ℕ) (n k : ℕ) (r : Run) → (round top n r).kept ≤ suc r.kept

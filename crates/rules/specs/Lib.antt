@@ -21,6 +21,7 @@ pub mod Grid
 -- The numbers and the order of the tests: RULES 17 and 18
 pub mod Numbers
 pub mod Refusing
+pub mod Told
 -- The calls, and all that each one leaves behind: RULES 16, and 11
 pub mod Calls
 pub mod Better

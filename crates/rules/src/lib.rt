@@ -1,6 +1,12 @@
 // The limits (RULES 3), and what each public call answers (RULES 16). The rules themselves stand in specs/.
 #![tactic(auto)]
 
+mod for_c;
+
+ghost use Rattle.std.specs.Prelude.{◌≡◌};
+ghost use Rattle.rules.specs.Numbers.{fault};
+ghost use Rattle.rules.specs.Told.{number_of, refused};
+
 // The sizes of the tables, which do not depend on n.
 pub const PATHS: usize = 128;
 
@@ -32,43 +38,83 @@ pub const ANCHOR_MOST: i32 = 1024;
 
 pub const ORDER_MOST: usize = 2314;
 
-// The numbers of the refusals. 0 is none.
-pub const REFUSED_COUNT: usize = 1;
+// What a call is refused for, in the order of its number (RULES 17); 0 is none.
+#[derive(Clone, Copy, Debug, PartialEq, Eq)]
+pub enum Cause {
+    Count = 1,
+    Size,
+    Width,
+    Guard,
+    Mirror,
+    Entry,
+    Start,
+    Clash,
+    NoSides,
+    Rounds,
+    Form,
+    LabelTwice,
+    LabelUnknown,
+    PairTwice,
+    List,
+    Room,
+    Anchor,
+}
 
-pub const REFUSED_SIZE: usize = 2;
+impl Cause {
+    pub fn number(self) -> usize
+        ensures { result ≡ number_of self }
+    {
+        self as usize
+    }
+}
 
-pub const REFUSED_WIDTH: usize = 3;
+// A refusal: for what, at which place, and how many slots short the pair is that `Clash` refuses, 0 beside every
+// other cause.
+#[derive(Clone, Copy, Debug, PartialEq, Eq)]
+pub struct Refusal {
+    pub cause: Cause,
+    pub place: usize,
+    pub short: usize,
+}
 
-pub const REFUSED_GUARD: usize = 4;
+impl Refusal {
+    // No test but that of the slots says how many are short.
+    pub fn at(cause: Cause, place: usize) -> Refusal
+        ensures { refused result ≡ fault (number_of cause) place }
+    {
+        Refusal {
+            cause,
+            place,
+            short: 0,
+        }
+    }
 
-pub const REFUSED_MIRROR: usize = 5;
+    // A refusal of a whole, which has no place.
+    pub fn whole(cause: Cause) -> Refusal
+        ensures { refused result ≡ fault (number_of cause) 0 }
+    {
+        Refusal::at(cause, 0)
+    }
+}
 
-pub const REFUSED_ENTRY: usize = 6;
+// What is done where nothing is refused, of the calls that do more than one thing or number says. Why a path stands where
+// it stands: so many paths of the chain stand in their table, and the last of them can come down by `down` slots, 0 in
+// slot 1.
+#[derive(Clone, Copy, Debug, PartialEq, Eq)]
+pub struct Explained {
+    pub length: usize,
+    pub down: usize,
+}
 
-pub const REFUSED_START: usize = 7;
+// Planning and improving: order and starts stand in their tables; the highest slot, and how many swaps were kept.
+#[derive(Clone, Copy, Debug, PartialEq, Eq)]
+pub struct Arranged {
+    pub highest: usize,
+    pub kept: usize,
+}
 
-pub const REFUSED_CLASH: usize = 8;
-
-pub const REFUSED_NO_SIDES: usize = 9;
-
-pub const REFUSED_ROUNDS: usize = 10;
-
-pub const REFUSED_FORM: usize = 11;
-
-pub const REFUSED_LABEL_TWICE: usize = 12;
-
-pub const REFUSED_LABEL_UNKNOWN: usize = 13;
-
-pub const REFUSED_PAIR_TWICE: usize = 14;
-
-pub const REFUSED_LIST: usize = 15;
-
-pub const REFUSED_ROOM: usize = 16;
-
-pub const REFUSED_ANCHOR: usize = 17;
-
-// A refusal: its number and its place, 0 and 0 where nothing is at fault, and how many slots short the pair
-// is that 8 refuses, 0 beside every other number. Judging answers this alone.
+// What C is answered: number and place of a refusal, 0 and 0 where nothing is at fault, and what is done, 0 beside a
+// refusal. Judging: how many slots short the pair is that 8 refuses, 0 beside every other number.
 #[repr(C)]
 #[derive(Drop)]
 pub struct Fault {

@@ -1,16 +1,20 @@
--- What the lines of a section answer, against the definitions of the rules. A place in a text stands for
--- the text from there on. Assumes nothing.
-use Rattle.std.specs.Prelude.{ℕ, ◌≤◌, ◌≡◌, List, length, drop}
+-- What the lines of a section answer, as the rules say it. Assumes nothing.
+use Rattle.std.specs.Prelude.{ℕ, List, [], Result, Ok, Err}
+use Rattle.std.specs.Borrow.{Bor}
+use Rattle.rules.specs.declared.Refusal.{Refusal}
 use Rattle.rules.specs.Sheet.{Section, halt, done}
-use Rattle.sections.specs.declared.Part.{Part}
-use Rattle.sections.specs.declared.Part.TheVariants.{Over, Halt}
+use Rattle.rules.specs.Told.{number_of}
 
--- a section's answer, over tables of which t is what stands in them afterwards; a refused one leaves them
--- anyhow
-abbrev pub SectionIs : {T : Type 0} → List ℕ → T → Section T → Part → Type 0
-SectionIs s t x (Halt number line) = x ≡ halt number line
-SectionIs s t x (Over e) = x ≡ done t (drop e s)
+-- what is done, read as the tables afterwards and the text after it, or the refusal, whose place is its line
+abbrev pub section_by : {A T : Type 0} → (A → T) → (A → List ℕ) → Result A Refusal → Section T
+section_by tables rest (Ok a) = done (tables a) (rest a)
+section_by tables rest (Err r) = halt (number_of r.cause) r.place
 
-abbrev pub PartWithin : List ℕ → Part → Type 0
-PartWithin s (Halt number line) = Unit {0}
-PartWithin s (Over e) = e ≤ length s
+-- a section's answer, over tables of which t is what stands in them afterwards: the text after it. A refused one leaves
+-- them anyhow
+abbrev pub section_of : {T : Type 0} → T → Result (Bor (List ℕ)) Refusal → Section T
+section_of t r = section_by (λ rest. t) (λ rest. rest.now) r
+
+-- the same where no text is left
+abbrev pub ended_of : {T : Type 0} → T → Result (Unit {0}) Refusal → Section T
+ended_of t r = section_by (λ done. t) (λ done. []) r

@@ -1,2 +1,1 @@
-pub mod Answered
 pub mod Written

@@ -7,10 +7,11 @@ use lib.Dec.{ltb}
 use Rattle.rules.specs.declared.Fault.{Fault}
 use Rattle.rules.specs.Tables.{Lent, lend}
 use Rattle.rules.specs.Writing.{bad_label, label_twice, pairs, has_plan, sheet_text}
-use Rattle.rules.specs.Numbers.{refuse_if, ◌or_else◌, scan, bad_start, label_sizes, lent_fault, room_fault, write_fault}
+use Rattle.rules.specs.Numbers.{no_fault, refuse_if, ◌or_else◌, scan, bad_start, label_sizes, lent_fault, room_fault, write_fault}
 use Rattle.rules.specs.Calls.{unless, refused_written, done_written, writing}
 use Rattle.table_laws.specs.Faults.{or_clear, or_assoc}
-use Rattle.table_laws.specs.Chains.{number_of, lent_clear}
+use Rattle.table_laws.specs.Chains.{lent_clear}
+use Rattle.table_laws.specs.Results.{clear_none}
 use Rattle.sheet_laws.specs.Sizes.{Sized, labels_clear}
 use Rattle.sheet_tables.specs.Tests.{plan_fault, table_fault}
 
@@ -38,10 +39,10 @@ module _ (n : ℕ) (labels : List ℕ) (lent : Lent) (starts text : List ℕ) wh
   writing_is = ap (λ (x : Fault). unless x (refused_written text) (done_written (sheet_text n labels lent starts) text)) (sym in_order)
 
 -- what tables that are not refused say
-pub table_clear : (n : ℕ) (labels widths guards starts : List ℕ) (f : Fault) → f ≡ table_fault n labels (lend widths guards) starts → f.number ≡ 0 → (n ≤ 128) × Sized labels widths guards starts
+pub table_clear : (n : ℕ) (labels widths guards starts : List ℕ) → no_fault ≡ table_fault n labels (lend widths guards) starts → (n ≤ 128) × Sized labels widths guards starts
 unfolding table_fault
-table_clear n labels widths guards starts f e z =
-    let a = or_clear _ _ (number_of e z) in
+table_clear n labels widths guards starts e =
+    let a = or_clear _ _ (clear_none e) in
     let b = lent_clear n (lend widths guards) (label_sizes labels starts) a.0 in
     let d = labels_clear labels starts b.1 in
     (b.0.few, record { labels_size_lem = d.0; widths_size_lem = b.0.widths_size; guards_size_lem = b.0.guards_size; starts_size_lem = d.1 })

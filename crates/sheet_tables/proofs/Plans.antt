@@ -1,15 +1,15 @@
--- 7, where there is a plan and where there is none; 1, of the pairs. Assumes nothing.
-use Prim.Native.Nat.{ℕ, ◌≤◌, ◌<◌}
-use mathlib.Core.Path.{◌≡◌, sym, ap}
-use mathlib.Core.Bool.{Bool, true, false, ◌&&◌}
-use mathlib.Core.List.{List}
-use lib.Dec.{ltb}
-use native.Mathlib.Omega.{arith}
-use borrow.Author.Tests.{lt-ltb, le-ltb}
+-- 7, where there is a plan and where there is none; the pairs. Assumes nothing.
+use Prim.Native.Nat.{ℕ, zero, suc, ◌*◌, ◌≤◌}
+use Rattle.std.specs.Prelude.{◌≡◌, refl, Bool, true, false, cond, ◌&&◌, List, map}
+use Rattle.std.proofs.Common.{sym, ap, arith}
+use Rattle.std.specs.List.{range_with_len, sum_by}
+use Rattle.std.proofs.lemmas.List.FromFn.{sum_by-map-range_with_len_more}
 use Rattle.rules.specs.declared.Fault.{Fault}
-use Rattle.rules.specs.Writing.{pairs, has_plan}
-use Rattle.rules.specs.Numbers.{fault, no_fault, refuse_if, bad_start, start_fault}
-use Rattle.table_laws.specs.Faults.{refuse_bad, refuse_not, scan_none}
+use Rattle.rules.specs.Scan.{sum}
+use Rattle.rules.specs.Writing.{is_pair, pairs, has_plan}
+use Rattle.rules.specs.Numbers.{no_fault, bad_start, start_fault}
+use Rattle.table_laws.specs.Faults.{scan_none}
+use Rattle.table_laws.specs.Scans.{sum_le}
 use Rattle.sheet_tables.specs.Tests.{plan_fault}
 
 pub plan_tested : (n : ℕ) (starts : List ℕ) (f : Fault) → has_plan n starts ≡ true → f ≡ start_fault n starts → f ≡ plan_fault n starts
@@ -20,9 +20,22 @@ pub plan_untested : (n : ℕ) (starts : List ℕ) → has_plan n starts ≡ fals
 unfolding plan_fault
 plan_untested n starts e = sym (scan_none 7 (λ k. has_plan n starts && bad_start starts k) n (λ k l. ap (λ (b : Bool). b && bad_start starts k) e))
 
-module _ (n : ℕ) (guards : List ℕ) (m : ℕ) (e : m ≡ pairs n guards) where
-  pub pairs_many : 2000 < m → fault 1 0 ≡ refuse_if (ltb 2000 (pairs n guards)) 1 0
-  pairs_many h = sym (refuse_bad (ltb 2000 (pairs n guards)) 1 0 (lt-ltb 2000 (pairs n guards) (omega arith)))
+-- the pairs, counted row by row
+pub sum_below : (f : ℕ → ℕ) (n : ℕ) → sum_by (λ x. x) (map f (range_with_len 0 n)) ≡ sum f n
+unfolding sum
+sum_below f zero = refl
+sum_below f (suc n) = grind (arith, sum_by-map-range_with_len_more (λ x. x) f 0 n n (omega arith), sum_below f n)
 
-  pub pairs_few : m ≤ 2000 → no_fault ≡ refuse_if (ltb 2000 (pairs n guards)) 1 0
-  pairs_few h = sym (refuse_not (ltb 2000 (pairs n guards)) 1 0 (le-ltb 2000 (pairs n guards) (omega arith)))
+-- a row has at most n of them
+row_few : (guards : List ℕ) (n i : ℕ) → sum (λ j. cond (is_pair guards i j) 1 0) n ≤ n * 1
+row_few guards n i = sum_le _ 1 n (λ j l. go (is_pair guards i j))
+  where
+    go : (b : Bool) → cond b 1 0 ≤ 1
+    go true = omega arith
+    go false = omega arith
+
+pub pairs_few : (n : ℕ) (guards : List ℕ) → n ≤ 128 → pairs n guards ≤ 16384
+unfolding pairs
+pairs_few n guards l =
+    let e = sum_le (λ i. sum (λ j. cond (is_pair guards i j) 1 0) n) 128 n (λ i g. omega (arith, row_few guards n i)) in
+    omega arith

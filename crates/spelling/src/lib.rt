@@ -1,208 +1,133 @@
-// An inner crate, for the writers of sheets: the fields of a line and the lines that they make, put into a
-// text, and how long they are.
+// An inner crate, for the writers of sheets: the fields of a line and the lines that they make, put into a text. What
+// puts them also counts them, so that how long a text is follows from the same code.
 #![tactic(auto)]
 
-ghost use Rattle.std.specs.Prelude.{◌≡◌, ◌++◌, ◌+◌, ◌*◌, ◌≤◌, ◌<◌, length, set};
+ghost use Rattle.std.specs.Prelude.{◌≡◌, ℕ, List, ◌++◌, ◌+◌, ◌*◌, ◌%◌, ◌≤◌, ◌<◌, length};
 ghost use Rattle.rules.specs.Text.{numeral, signed_numeral, space, line_feed};
 ghost use Rattle.rules.specs.Writing.{label_of, count_text, path_text, guard_text};
 ghost use Rattle.sheet_laws.specs.Grid.{lowered};
-ghost use Rattle.spelling.specs.Says.{Wrote};
+ghost use Rattle.spelling.specs.Sinks.{IsSink};
 
-// How many digits a number has.
-fn number_length(v: usize) -> usize
-    requires { v < 100000 }
-    ensures { result ≡ length (numeral v) }
+mod count;
+mod pen;
+
+pub use count::Count;
+pub use pen::Pen;
+
+// The last digit of a number.
+fn digit(v: usize) -> u8
+    ensures { result ≡ 48 + v % 10 }
 {
-    if v < 10 {
-        return 1;
-    }
-    if v < 100 {
-        return 2;
-    }
-    if v < 1000 {
-        return 3;
-    }
-    if v < 10000 {
-        return 4;
-    }
-    5
+    b'0' + (v % 10) as u8
 }
 
-// How long a number is that may lie below 0 and is counted from -100,000. Then it has a hyphen.
-pub fn signed_length(u: usize) -> usize
-    requires { (0 < u) × (u < 200000) }
-    ensures { (result ≡ length (signed_numeral (lowered u))) × (result ≤ 6) }
-{
-    if u < text::ZERO {
-        return 1 + number_length(text::ZERO - u);
-    }
-    number_length(u - text::ZERO)
-}
+// Takes a text, piece after piece. A pen puts it into a slice of bytes, and a count only counts it.
+pub trait Sink {
+    // How many more bytes it takes.
+    ghost room: { Self → ℕ };
 
-// The length of a line's last field: a space, a number and the line feed.
-pub fn last_length(v: usize) -> usize
-    requires { v < 100000 }
-    ensures { (result ≡ length (numeral v) + 2) × (result ≤ 7) }
-{
-    number_length(v) + 2
-}
+    // It was the first, took the bytes, and is the second.
+    ghost takes: { Self → List ℕ → Self → Type 0 };
 
-pub fn count_line_length(w: &[u8], m: usize) -> usize
-    requires { (m < 100000) × (length w.now ≤ 100) }
-    ensures { result ≡ length (count_text w.now m) }
-{
-    w.len() + last_length(m)
-}
+    // Puts fixed bytes.
+    fn put_word(&mut self, w: &[u8])
+        requires { length w.now ≤ room self.old }
+        ensures { takes self.old w.now self.new };
 
-pub fn path_line_length(labels: &[u8], table: &[u16], k: usize) -> usize
-    requires { (8 * k + 8 ≤ length labels.now) × (k < length table.now) }
-    ensures { (result ≡ length (path_text labels.now table.now k)) × (result ≤ 15) }
-{
-    let v = table[k] as usize;
-    labels::label_length(labels, k) + last_length(v)
-}
+    ghost laws: { IsSink room takes };
 
-// Puts one byte into a text, and answers the place after it.
-fn put(text: &mut [u8], place: usize, b: u8) -> usize
-    requires { place < length text.old }
-    ensures { (result ≡ place + 1) × (text.new ≡ set text.old place b) }
-{
-    text[place] = b;
-    place + 1
-}
-
-// Puts fixed bytes.
-pub fn put_word(text: &mut [u8], place: usize, w: &[u8]) -> usize
-    requires { place + length w.now ≤ length text.old }
-    ensures { Wrote text.old place w.now result text.new }
-{
-    let mut p = place;
-    let mut j = 0;
-    while j < w.len() {
-        p = put(text, p, w[j]);
-        j += 1;
-    }
-    p
-}
-
-// Puts a number, in as many digits as it has: the last one first, as what is then left to put is a tenth of
-// the number, in the same place.
-pub fn put_number(text: &mut [u8], place: usize, v: usize) -> usize
-    requires { (v < 100000) × (place + length (numeral v) ≤ length text.old) }
-    ensures { Wrote text.old place (numeral v) result text.new }
-{
-    let end = place + number_length(v);
-    let mut left = v;
-    let mut p = end;
-    while left >= 10 {
-        p -= 1;
-        text[p] = 48 + (left % 10) as u8;
-        left /= 10;
-    }
-    text[place] = 48 + left as u8;
-    end
-}
-
-// Puts a number that may lie below 0 and is counted from -100,000.
-pub fn put_signed(text: &mut [u8], place: usize, u: usize) -> usize
-    requires { (0 < u) × (u < 200000)
-        × (place + length (signed_numeral (lowered u)) ≤ length text.old) }
-    ensures { Wrote text.old place (signed_numeral (lowered u)) result text.new }
-{
-    if u < text::ZERO {
-        let p = put_word(text, place, b"-");
-        return put_number(text, p, text::ZERO - u);
-    }
-    put_number(text, place, u - text::ZERO)
-}
-
-// Puts path k's label.
-pub fn put_label(text: &mut [u8], place: usize, labels: &[u8], k: usize) -> usize
-    requires { (8 * k + 8 ≤ length labels.now)
-        × (place + length (label_of labels.now k) ≤ length text.old) }
-    ensures { Wrote text.old place (label_of labels.now k) result
-        text.new }
-{
-    let mut p = place;
-    let mut j = 0;
-    while j < rules::LABEL {
-        let b = labels[rules::LABEL * k + j];
-        if !text::in_class(b, true) {
-            return p;
+    // Puts a number, in as many digits as it has.
+    final fn put_number(&mut self, v: usize)
+    where
+        Self: Sized,
+        requires { (v < 100000) × (length (numeral v) ≤ room self.old) }
+        ensures { takes self.old (numeral v) self.new }
+    {
+        for power in [10000, 1000, 100, 10] {
+            if power <= v {
+                self.put_word(&[digit(v / power)]);
+            }
         }
-        p = put(text, p, b);
-        j += 1;
+        self.put_word(&[digit(v)]);
     }
-    p
-}
 
-// Puts a line's last field: a space, a number and the line feed.
-pub fn put_last(text: &mut [u8], place: usize, v: usize) -> usize
-    requires { (v < 100000) × (place + length (numeral v) + 2 ≤ length text.old) }
-    ensures { Wrote text.old place (space
-        ++ (numeral v ++ line_feed)) result text.new }
-{
-    let p = put_word(text, place, b" ");
-    let q = put_number(text, p, v);
-    put_word(text, q, b"\n")
-}
-
-// Puts a section's word and its count.
-pub fn put_count_line(text: &mut [u8], place: usize, w: &[u8], m: usize) -> usize
-    requires { (m < 100000) × (place + length (count_text w.now m) ≤ length text.old) }
-    ensures { Wrote text.old place (count_text w.now m) result text.new }
-{
-    let p = put_word(text, place, w);
-    put_last(text, p, m)
-}
-
-// Puts path k's line: its label, and its number of a table.
-pub fn put_path_line(text: &mut [u8], place: usize, labels: &[u8], table: &[u16], k: usize) -> usize
-    requires { (8 * k + 8 ≤ length labels.now) × (k < length table.now)
-        × (place + length (path_text labels.now table.now k) ≤ length text.old) }
-    ensures { Wrote text.old place
-        (path_text labels.now table.now k) result text.new }
-{
-    let v = table[k] as usize;
-    let p = put_label(text, place, labels, k);
-    put_last(text, p, v)
-}
-
-// The length of the line of paths i and j, 0 where they have none.
-pub fn guard_line_length(labels: &[u8], guards: &[u8], i: usize, j: usize) -> usize
-    requires { (i < j) × (j < 128) × (length labels.now ≡ 1024) × (length guards.now ≡ 16384) }
-    ensures { (result ≡ length (guard_text labels.now guards.now i j)) × (result ≤ 24) }
-{
-    let guard = guards[rules::PATHS * i + j];
-    if guard == rules::NO_CONFLICT {
-        return 0;
+    // Puts a number that may lie below 0 and is counted from -100,000. Then it has a hyphen.
+    #[tactic(auto, using(sheet_laws::specs::Grid::spelled_below, sheet_laws::specs::Grid::spelled_above))]
+    final fn put_signed(&mut self, u: usize)
+    where
+        Self: Sized,
+        requires { (0 < u) × (u < 200000) × (length (signed_numeral (lowered u)) ≤ room self.old) }
+        ensures { takes self.old (signed_numeral (lowered u)) self.new }
+    {
+        if u < text::ZERO {
+            self.put_word(b"-");
+            self.put_number(text::ZERO - u);
+        } else {
+            self.put_number(u - text::ZERO);
+        }
     }
-    labels::label_length(labels, i)
-        + labels::label_length(labels, j)
-        + last_length(guard as usize)
-        + 1
-}
 
-// Puts the line of paths i and j, of which i is the earlier, where they have one.
-pub fn put_guard_line(
-    text: &mut [u8],
-    place: usize,
-    labels: &[u8],
-    guards: &[u8],
-    i: usize,
-    j: usize,
-) -> usize
-    requires { (i < j) × (j < 128) × (length labels.now ≡ 1024) × (length guards.now ≡ 16384)
-        × (place + length (guard_text labels.now guards.now i j) ≤ length text.old) }
-    ensures { Wrote text.old place
-        (guard_text labels.now guards.now i j) result text.new }
-{
-    let guard = guards[rules::PATHS * i + j];
-    if guard == rules::NO_CONFLICT {
-        return place;
+    // Puts path k's label.
+    final fn put_label(&mut self, labels: &[u8], k: usize)
+    where
+        Self: Sized,
+        requires { (8 * k + 8 ≤ length labels.now) × (length (label_of labels.now k) ≤ room self.old) }
+        ensures { takes self.old (label_of labels.now k) self.new }
+    {
+        self.put_word(labels::name(labels, k));
     }
-    let p = put_label(text, place, labels, i);
-    let q = put_word(text, p, b" ");
-    let e = put_label(text, q, labels, j);
-    put_last(text, e, guard as usize)
+
+    // Puts a line's last field: a space, a number and the line feed.
+    final fn put_last(&mut self, v: usize)
+    where
+        Self: Sized,
+        requires { (v < 100000) × (length (numeral v) + 2 ≤ room self.old) }
+        ensures { takes self.old (space ++ (numeral v ++ line_feed)) self.new }
+    {
+        self.put_word(b" ");
+        self.put_number(v);
+        self.put_word(b"\n");
+    }
+
+    // Puts a section's word and its count.
+    #[tactic(auto, using(sheet_laws::specs::Writes::count_length), unfolding(rules::specs::Writing::count_text))]
+    final fn put_count_line(&mut self, w: &[u8], m: usize)
+    where
+        Self: Sized,
+        requires { (m < 100000) × (length (count_text w.now m) ≤ room self.old) }
+        ensures { takes self.old (count_text w.now m) self.new }
+    {
+        self.put_word(w);
+        self.put_last(m);
+    }
+
+    // Puts path k's line: its label, and its number of a table.
+    #[tactic(auto, using(sheet_laws::specs::Writes::path_length), unfolding(rules::specs::Writing::path_text))]
+    final fn put_path_line(&mut self, labels: &[u8], table: &[u16], k: usize)
+    where
+        Self: Sized,
+        requires { (8 * k + 8 ≤ length labels.now) × (k < length table.now)
+            × (length (path_text labels.now table.now k) ≤ room self.old) }
+        ensures { takes self.old (path_text labels.now table.now k) self.new }
+    {
+        self.put_label(labels, k);
+        self.put_last(usize::from(table[k]));
+    }
+
+    // Puts the line of paths i and j, of which i is the earlier, where they have one.
+    final fn put_guard_line(&mut self, labels: &[u8], guards: &[u8], i: usize, j: usize)
+    where
+        Self: Sized,
+        requires { (i < j) × (j < 128) × (length labels.now ≡ 1024) × (length guards.now ≡ 16384)
+            × (length (guard_text labels.now guards.now i j) ≤ room self.old) }
+        ensures { takes self.old (guard_text labels.now guards.now i j) self.new }
+    {
+        let guard = guards[rules::PATHS * i + j];
+        if guard != rules::NO_CONFLICT {
+            self.put_label(labels, i);
+            self.put_word(b" ");
+            self.put_label(labels, j);
+            self.put_last(usize::from(guard));
+        }
+    }
 }

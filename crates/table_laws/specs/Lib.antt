@@ -1,9 +1,12 @@
 pub mod Count
 pub mod Scans
+pub mod Firsts
+pub mod Searches
 pub mod Tables
 pub mod Updates
 pub mod Orders
 pub mod Marks
 pub mod Faults
+pub mod Results
 pub mod Limits
 pub mod Chains

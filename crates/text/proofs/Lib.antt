@@ -1,2 +1,1 @@
-pub mod Classes
 pub mod Fields

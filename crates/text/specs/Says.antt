@@ -1,50 +1,30 @@
--- What the functions of this crate answer, against the definitions of the rules. A place in a text stands
--- for the text from there on. Assumes nothing.
-use Rattle.std.specs.Prelude.{ℕ, ◌+◌, ◌-◌, ◌≤◌, ◌<◌, ◌≡◌, Bool, true, false, List, length, take, drop}
-use Rattle.rules.specs.Text.{none, some, is_digit, is_label_byte, label, number, signed, word}
-use Rattle.rules.specs.Sheet.{last_field, count_line, path_line}
+-- What the functions of this crate answer, as the rules say it: a field with the text after it, or nothing. Assumes
+-- nothing.
+use Rattle.std.specs.Prelude.{ℕ, List, Option, Some, None, ℤ}
+use Rattle.std.specs.Borrow.{Bor}
+use Rattle.rules.specs.Text.{Parsed, none, some}
 use Rattle.sheet_laws.specs.Grid.{lowered}
-use Rattle.text.specs.declared.Next.{Next}
-use Rattle.text.specs.declared.Next.TheVariants.{At, Missing}
-use Rattle.text.specs.declared.Amount.{Amount}
-use Rattle.text.specs.declared.Amount.TheVariants.{Is, Unread}
 use Rattle.text.specs.declared.PathLine.{PathLine}
-use Rattle.text.specs.declared.PathLine.TheVariants.{Fields, Malformed}
 
--- the bytes of a label, or digits
-unfoldable pub class_of : Bool → ℕ → Bool
-class_of true = is_label_byte
-class_of false = is_digit
+-- what is found, read as a value and the text after it
+abbrev pub parsed_by : {A B : Type 0} → (A → B) → Option (A × Bor (List ℕ)) → Parsed B
+parsed_by value None = none
+parsed_by value (Some a) = some (value a.0) a.1.now
 
--- the bytes of a text from one place to another
-abbrev pub part : List ℕ → ℕ → ℕ → List ℕ
-part s a e = take (e - a) (drop a s)
+abbrev pub parsed : {A : Type 0} → Option (A × Bor (List ℕ)) → Parsed A
+parsed o = parsed_by (λ a. a) o
 
-abbrev pub WordIs : List ℕ → ℕ → List ℕ → Next → Type 0
-WordIs s a w Missing = word w (drop a s) ≡ none
-WordIs s a w (At e) = (word w (drop a s) ≡ some tt (drop e s)) × (e ≤ length s)
+-- fixed bytes have no value
+abbrev pub parsed_word : Option (Bor (List ℕ)) → Parsed (Unit {0})
+parsed_word None = none
+parsed_word (Some rest) = some tt rest.now
 
-abbrev pub LabelIs : List ℕ → ℕ → Next → Type 0
-LabelIs s a Missing = label (drop a s) ≡ none
-LabelIs s a (At e) = (label (drop a s) ≡ some (part s a e) (drop e s)) × (a < e) × (e ≤ a + 8) × (e ≤ length s)
+abbrev pub parsed_label : Option (Bor (List ℕ) × Bor (List ℕ)) → Parsed (List ℕ)
+parsed_label o = parsed_by (λ label. label.now) o
 
-abbrev pub NumberIs : List ℕ → ℕ → Amount → Type 0
-NumberIs s a Unread = number (drop a s) ≡ none
-NumberIs s a (Is v e) = (number (drop a s) ≡ some v (drop e s)) × (v < 100000) × (e ≤ length s)
+abbrev pub parsed_path : Option (PathLine × Bor (List ℕ)) → Parsed (List ℕ × ℕ)
+parsed_path o = parsed_by (λ line. (line.label.now, line.number)) o
 
 -- a number that may lie below 0, as it is counted
-abbrev pub SignedIs : List ℕ → ℕ → Amount → Type 0
-SignedIs s a Unread = signed (drop a s) ≡ none
-SignedIs s a (Is u e) = (signed (drop a s) ≡ some (lowered u) (drop e s)) × (u < 200000) × (e ≤ length s)
-
-abbrev pub LastIs : List ℕ → ℕ → Amount → Type 0
-LastIs s a Unread = last_field (drop a s) ≡ none
-LastIs s a (Is v e) = (last_field (drop a s) ≡ some v (drop e s)) × (v < 100000) × (e ≤ length s)
-
-abbrev pub CountIs : List ℕ → ℕ → List ℕ → Amount → Type 0
-CountIs s a w Unread = count_line w (drop a s) ≡ none
-CountIs s a w (Is v e) = (count_line w (drop a s) ≡ some v (drop e s)) × (v < 100000) × (e ≤ length s)
-
-abbrev pub PathLineIs : List ℕ → ℕ → PathLine → Type 0
-PathLineIs s a Malformed = path_line (drop a s) ≡ none
-PathLineIs s a (Fields e v h) = (path_line (drop a s) ≡ some (part s a e, v) (drop h s)) × (a < e) × (e ≤ length s) × (h ≤ length s)
+abbrev pub parsed_signed : Option (ℕ × Bor (List ℕ)) → Parsed ℤ
+parsed_signed o = parsed_by lowered o

@@ -1,230 +1,162 @@
-// An inner crate, for the readers of sheets: the fields of a line, and the lines that they make.
-// A text is its bytes, and a place in it stands for the text from there on.
+// An inner crate, for the readers of sheets: the fields of a line, and the lines that they make. A field is taken off
+// the front of a text, and what is found comes with the text after it.
 #![tactic(auto)]
 
-ghost use Rattle.std.specs.Prelude.{◌≡◌, ◌+◌, ◌-◌, ◌≤◌, ◌<◌, length, drop};
-ghost use Rattle.rules.specs.Text.{none, word, hyphen, run, is_digit, value_from};
-ghost use Rattle.text.specs.Says.{class_of, WordIs, LabelIs, NumberIs, SignedIs, LastIs, CountIs, PathLineIs};
+ghost use Rattle.std.specs.Prelude.{◌≡◌, ℕ, Bool, ◌≤◌, ◌<◌, true, length, drop, slice_index, EachIndex, IfSome};
+ghost use Rattle.rules.specs.Text.{word, run, is_digit, is_label_byte, label, number, signed, value_from};
+ghost use Rattle.rules.specs.Sheet.{last_field, count_line, path_line};
+ghost use Rattle.text.specs.Says.{parsed, parsed_word, parsed_label, parsed_path, parsed_signed};
 
 // The section words: the reader compares these byte by byte, and the writer writes them.
-pub const PATHS_WORD: [u8; 5] = *b"paths";
+pub const PATHS_WORD: &[u8] = b"paths";
 
-pub const GUARDS_WORD: [u8; 6] = *b"guards";
+pub const GUARDS_WORD: &[u8] = b"guards";
 
-pub const STARTS_WORD: [u8; 6] = *b"starts";
+pub const STARTS_WORD: &[u8] = b"starts";
 
-pub const ORDER_WORD: [u8; 5] = *b"order";
+pub const ORDER_WORD: &[u8] = b"order";
 
 // A number that may lie below 0 is counted from -100,000, below which no line can spell one. 0 is counted as this.
 pub const ZERO: usize = 100000;
 
-// The place after what was read, or nothing of the kind stands there.
-#[derive(Drop)]
-pub enum Next {
-    At(usize),
-    Missing,
+// A number has at most so many digits.
+const DIGITS: usize = 5;
+
+// A path's line: its label and its number.
+#[derive(Clone, Copy)]
+pub struct PathLine<'a> {
+    pub label: &'a [u8],
+    pub number: usize,
 }
 
-// A number with the place after it.
-#[derive(Drop)]
-pub enum Amount {
-    Is(usize, usize),
-    Unread,
-}
-
-// A path's line: the place after its label, its number, and the place after the line.
-#[derive(Drop)]
-pub enum PathLine {
-    Fields(usize, usize, usize),
-    Malformed,
-}
-
-// A byte of a label is a digit, a capital or the hyphen; a byte of a number is a digit.
-pub fn in_class(b: u8, label: bool) -> bool
-    ensures { result ≡ class_of label b }
+// A byte of a number.
+#[tactic(auto, unfolding(rules::specs::Text::is_digit))]
+pub fn is_digit(b: u8) -> bool
+    ensures { result ≡ is_digit b }
 {
-    if b == 45 {
-        return label;
-    }
-    if b < 48 {
-        return false;
-    }
-    if b <= 57 {
-        return true;
-    }
-    if b < 65 {
-        return false;
-    }
-    if b <= 90 {
-        return label;
-    }
-    false
+    b.is_ascii_digit()
 }
 
-// Where the bytes of a class that start at a place end.
-fn run_end(text: &[u8], place: usize, label: bool) -> usize
-    requires { place ≤ length text.now }
-    ensures { (result ≡ place + length (run (class_of label) (drop place text.now)))
-        × (result ≤ length text.now) }
+// A byte of a label: a digit, a capital or the hyphen.
+#[tactic(auto, unfolding(rules::specs::Text::is_label_byte, rules::specs::Text::is_digit))]
+pub fn is_label_byte(b: u8) -> bool
+    ensures { result ≡ is_label_byte b }
 {
-    let mut i = place;
-    while i < text.len() {
-        if !in_class(text[i], label) {
-            return i;
-        }
-        i += 1;
-    }
-    i
+    b.is_ascii_digit() || b.is_ascii_uppercase() || b == b'-'
 }
 
-fn digit(b: u8) -> usize
-    requires { (48 ≤ b) × (b ≤ 57) }
-    ensures { result ≡ b - 48 }
+// The longest front part of bytes that pass a test, and the text after it.
+fn run<F: Fn(u8) -> bool + Drop>(text: &[u8], test: F) -> (&[u8], &[u8])
+    requires { F.IsAlwaysCallable test }
+    ensures { (p : ℕ → Bool) → ((x : ℕ) (b : Bool) → F.post test x b → b ≡ p x)
+        → (result.0.now ≡ run p text.now) × (result.1.now ≡ drop (length (run p text.now)) text.now) }
 {
-    (b - 48) as usize
+    let end = text.iter().take_while(|b| test(**b)).count();
+    text.split_at(end)
 }
 
-// The number that the digits between two places spell.
-fn value(text: &[u8], place: usize, end: usize) -> usize
-    requires { (end ≡ place + length (run is_digit (drop place text.now))) × (end ≤ length text.now)
-        × (end ≤ place + 5) }
-    ensures { (result ≡ value_from 0 (run is_digit (drop place text.now))) × (result < 100000) }
+// The label bytes that stand in front, however many, and the text after them.
+pub fn label_bytes(text: &[u8]) -> (&[u8], &[u8])
+    ensures front { result.0.now ≡ run is_label_byte text.now }
+    ensures rest { result.1.now ≡ drop (length (run is_label_byte text.now)) text.now }
 {
-    let mut v: usize = 0;
-    let mut i = place;
-    while i < end {
-        let b = text[i];
-        v = 10 * v + digit(b);
-        i += 1;
+    run(text, is_label_byte)
+}
+
+// The number that up to five digits spell.
+#[tactic(auto, using(crate::proofs::Fields::digit_by_digit))]
+fn value(digits: &[u8]) -> usize
+    requires digits { EachIndex digits.now (λ k. is_digit (slice_index digits.now k) ≡ true) }
+    requires few { length digits.now ≤ 5 }
+    ensures value { result ≡ value_from 0 digits.now }
+    ensures below { result < 100000 }
+{
+    let mut value = 0;
+    for digit in digits {
+        value = 10 * value + usize::from(*digit - b'0');
     }
-    v
+    value
 }
 
 // A number: one to five digits, of which the first is not 0 unless it stands alone.
-pub fn number(text: &[u8], place: usize) -> Amount
-    requires { place ≤ length text.now }
-    ensures { NumberIs text.now place result }
+#[tactic(auto, unfolding(rules::specs::Text::number, rules::specs::Text::is_plain))]
+pub fn number(text: &[u8]) -> Option<(usize, &[u8])>
+    ensures value { parsed result ≡ number text.now }
+    ensures below { IfSome result (λ r. r.0 < 100000) }
 {
-    let end = run_end(text, place, false);
-    let count = end - place;
-    if count == 0 {
-        return Amount::Unread;
+    let (digits, rest) = run(text, is_digit);
+    if !(1..=DIGITS).contains(&digits.len()) {
+        return None;
     }
-    if 5 < count {
-        return Amount::Unread;
+    if digits[0] == b'0' && 1 < digits.len() {
+        return None;
     }
-    if text[place] == 48 {
-        if 1 < count {
-            return Amount::Unread;
-        }
-        return Amount::Is(0, end);
-    }
-    let v = value(text, place, end);
-    Amount::Is(v, end)
+    Some((value(digits), rest))
 }
 
 // A label: one to eight bytes.
-pub fn label(text: &[u8], place: usize) -> Next
-    requires { place ≤ length text.now }
-    ensures { LabelIs text.now place result }
+#[tactic(auto, unfolding(rules::specs::Text::label))]
+pub fn label(text: &[u8]) -> Option<(&[u8], &[u8])>
+    ensures value { parsed_label result ≡ label text.now }
+    ensures few { IfSome result (λ r. (0 < length r.0.now) × (length r.0.now ≤ 8)) }
 {
-    let end = run_end(text, place, true);
-    let count = end - place;
-    if count == 0 {
-        return Next::Missing;
+    let (label, rest) = label_bytes(text);
+    if !(1..=rules::LABEL).contains(&label.len()) {
+        return None;
     }
-    if rules::LABEL < count {
-        return Next::Missing;
-    }
-    Next::At(end)
+    Some((label, rest))
 }
 
 // Fixed bytes.
-pub fn word(text: &[u8], place: usize, w: &[u8]) -> Next
-    requires { place ≤ length text.now }
-    ensures { WordIs text.now place w.now result }
+pub fn word<'a>(text: &'a [u8], w: &[u8]) -> Option<&'a [u8]>
+    ensures { parsed_word result ≡ word w.now text.now }
 {
-    let mut i = place;
-    let mut j = 0;
-    while j < w.len() {
-        if text.len() <= i {
-            return Next::Missing;
-        }
-        if w[j] != text[i] {
-            return Next::Missing;
-        }
-        i += 1;
-        j += 1;
-    }
-    Next::At(i)
-}
-
-// A number without a hyphen, counted from -100,000.
-fn unsigned(text: &[u8], place: usize) -> Amount
-    requires { (place ≤ length text.now) × (word hyphen (drop place text.now) ≡ none) }
-    ensures { SignedIs text.now place result }
-{
-    let Amount::Is(v, next) = number(text, place) else {
-        return Amount::Unread;
-    };
-    Amount::Is(v + ZERO, next)
+    text.strip_prefix(w)
 }
 
 // A number that may lie below 0, counted from -100,000. What stands after a hyphen is not 0.
-pub fn signed(text: &[u8], place: usize) -> Amount
-    requires { place ≤ length text.now }
-    ensures { SignedIs text.now place result }
+#[tactic(auto, using(crate::proofs::Fields::with_hyphen))]
+pub fn signed(text: &[u8]) -> Option<(usize, &[u8])>
+    ensures value { parsed_signed result ≡ signed text.now }
+    ensures below { IfSome result (λ r. r.0 < 200000) }
 {
-    let Next::At(e) = word(text, place, b"-") else {
-        return unsigned(text, place);
+    let Some(after) = word(text, b"-") else {
+        let (v, rest) = number(text)?;
+        return Some((ZERO + v, rest));
     };
-    let Amount::Is(v, next) = number(text, e) else {
-        return Amount::Unread;
-    };
+    let (v, rest) = number(after)?;
     if v == 0 {
-        return Amount::Unread;
+        return None;
     }
-    Amount::Is(ZERO - v, next)
+    Some((ZERO - v, rest))
 }
 
 // A line's last field: a space, a number and the line feed.
-pub fn last_field(text: &[u8], place: usize) -> Amount
-    requires { place ≤ length text.now }
-    ensures { LastIs text.now place result }
+#[tactic(auto, unfolding(rules::specs::Sheet::last_field, rules::specs::Text::then))]
+pub fn last_field(text: &[u8]) -> Option<(usize, &[u8])>
+    ensures value { parsed result ≡ last_field text.now }
+    ensures below { IfSome result (λ r. r.0 < 100000) }
 {
-    let Next::At(e) = word(text, place, b" ") else {
-        return Amount::Unread;
-    };
-    let Amount::Is(v, f) = number(text, e) else {
-        return Amount::Unread;
-    };
-    let Next::At(next) = word(text, f, b"\n") else {
-        return Amount::Unread;
-    };
-    Amount::Is(v, next)
+    let field = word(text, b" ")?;
+    let (v, end) = number(field)?;
+    Some((v, word(end, b"\n")?))
 }
 
 // A section's word and its count.
-pub fn count_line(text: &[u8], place: usize, w: &[u8]) -> Amount
-    requires { place ≤ length text.now }
-    ensures { CountIs text.now place w.now result }
+#[tactic(auto, unfolding(rules::specs::Sheet::count_line, rules::specs::Text::then))]
+pub fn count_line<'a>(text: &'a [u8], w: &[u8]) -> Option<(usize, &'a [u8])>
+    ensures value { parsed result ≡ count_line w.now text.now }
+    ensures below { IfSome result (λ r. r.0 < 100000) }
 {
-    let Next::At(e) = word(text, place, w) else {
-        return Amount::Unread;
-    };
-    last_field(text, e)
+    last_field(word(text, w)?)
 }
 
 // A label and a number.
-pub fn path_line(text: &[u8], place: usize) -> PathLine
-    requires { place ≤ length text.now }
-    ensures { PathLineIs text.now place result }
+#[tactic(auto, unfolding(rules::specs::Sheet::path_line, rules::specs::Text::then))]
+pub fn path_line(text: &[u8]) -> Option<(PathLine<'_>, &[u8])>
+    ensures { parsed_path result ≡ path_line text.now }
 {
-    let Next::At(e) = label(text, place) else {
-        return PathLine::Malformed;
-    };
-    let Amount::Is(v, next) = last_field(text, e) else {
-        return PathLine::Malformed;
-    };
-    PathLine::Fields(e, v, next)
+    let (label, field) = label(text)?;
+    let (number, rest) = last_field(field)?;
+    Some((PathLine { label, number }, rest))
 }

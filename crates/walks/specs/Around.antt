@@ -6,7 +6,7 @@ use Rattle.std.proofs.Math.Decide.{dec_lt}
 use Rattle.rules.specs.Scan.{sum}
 use Rattle.rules.specs.Packing.{Order}
 use Rattle.table_laws.specs.Scans.{sum_same, sum_front}
-use Rattle.walks.specs.Sets.{power, members}
+use Rattle.walks.specs.Sets.{alone, members}
 use Rattle.walks.specs.Walked.{steps}
 
 -- a sum backwards, and in two parts
@@ -30,7 +30,7 @@ sum_cut f m (suc n) = let e : m + suc n ≡ suc (m + n) = omega arith in rw e (o
 
 members_same : (o r : ℕ → ℕ) (m : ℕ) → ((i : ℕ) → i < m → o i ≡ r i) → members o m ≡ members r m
 unfolding members
-members_same o r m h = sum_same (λ i. power (o i)) (λ i. power (r i)) m (λ i l. ap power (h i l))
+members_same o r m h = sum_same (λ i. alone (o i)) (λ i. alone (r i)) m (λ i l. ap (λ x. alone x) (h i l))
 
 steps_same : (guard : ℕ → ℕ → ℕ) (k : ℕ) (o r : ℕ → ℕ) (m : ℕ) → ((i : ℕ) → i < suc m → o i ≡ r i) → steps guard k o m ≡ steps guard k r m
 steps_same guard k o r m h = sum_same (λ i. guard (o i) (o (suc i))) (λ i. guard (r i) (r (suc i))) m (λ i l. rw (h i (omega arith), h (suc i) (omega arith)))
@@ -42,16 +42,16 @@ back o m i = o (m - i)
 abbrev pub on : (ℕ → ℕ) → ℕ → ℕ → ℕ
 on o m i = o (m + i)
 
-pub members_around : (o : ℕ → ℕ) (m n : ℕ) → members o (suc (m + n)) + power (o m) ≡ members (back o m) (suc m) + members (on o m) (suc n)
+pub members_around : (o : ℕ → ℕ) (m n : ℕ) → members o (suc (m + n)) + alone (o m) ≡ members (back o m) (suc m) + members (on o m) (suc n)
 unfolding members sum
 members_around o m n =
     let e : m + suc n ≡ suc (m + n) = omega arith in
     omega (
       arith,
-      ap (sum (λ i. power (o i))) e,
-      sum_cut (λ i. power (o i)) m (suc n),
-      sum_back (λ i. power (o i)) (suc m),
-      sum_same (λ i. power (o (suc m - suc i))) (λ i. power (o (m - i))) (suc m) (λ i l. ap (λ x. power (o x)) (omega arith)),
+      ap (sum (λ i. alone (o i))) e,
+      sum_cut (λ i. alone (o i)) m (suc n),
+      sum_back (λ i. alone (o i)) (suc m),
+      sum_same (λ i. alone (o (suc m - suc i))) (λ i. alone (o (m - i))) (suc m) (λ i l. ap (λ x. alone (o x)) (omega arith)),
     )
 
 pub back_order : (o : ℕ → ℕ) (k m n : ℕ) → Order o k (suc (m + n)) → Order (back o m) k (suc m)
@@ -103,12 +103,12 @@ module _ (a b : ℕ → ℕ) (m : ℕ) where
   around_on i = let z : m + i - m ≡ i = omega arith in around_second (m + i) (omega arith) ∙ ap b z
 
   -- what it goes through, and how long it is
-  pub around_members : a 0 ≡ b 0 → (n : ℕ) → members (around a m b) (suc (m + n)) + power (b 0) ≡ members a (suc m) + members b (suc n)
+  pub around_members : a 0 ≡ b 0 → (n : ℕ) → members (around a m b) (suc (m + n)) + alone (b 0) ≡ members a (suc m) + members b (suc n)
   around_members e n =
       let z : m - m ≡ 0 = omega arith in
       omega (
         arith,
-        ap power (around_second m (omega arith) ∙ ap b z),
+        ap (λ x. alone x) (around_second m (omega arith) ∙ ap b z),
         members_around (around a m b) m n,
         members_same (back (around a m b) m) a (suc m) (around_back e),
         members_same (on (around a m b) m) b (suc n) (λ i l. around_on i),

@@ -1,93 +1,110 @@
--- The table of walks: cell 8 s + j has the least walk from position j through the set s. The sets are filled
--- in the order of their numbers, so that each comes after all its parts. Assumes nothing.
-use Rattle.std.specs.Prelude.{ℕ, suc, ◌+◌, ◌-◌, ◌*◌, ◌%◌, ◌≤◌, ◌<◌, min, ◌≡◌, Bool, true, false, cond, List, length, set, eqb}
-use Rattle.std.proofs.Math.Path.{refl}
-use Rattle.std.proofs.Common.{sym, subst, ◌∙◌, arith, add-one, length-set, eqb-true}
+-- The table of walks: row s has the least walk through the set s from each position. The sets are filled in the order of
+-- their numbers, so that each comes after all its parts. Assumes nothing.
+use Rattle.std.specs.Prelude.{ℕ, ◌+◌, ◌-◌, ◌≤◌, ◌<◌, min, ◌≡◌, refl, ◌≢◌, Bool, true, false, cond, List, [], length, set, replicate, eqb}
+use Rattle.std.proofs.Common.{◌∙◌, arith, add-one, length-set, eqb-true, get_or-set_same, get_or-set_other}
 use Rattle.std.proofs.Math.Decide.{dec_lt}
 use Rattle.std.proofs.lemmas.Bool.{eqb-false}
-use Rattle.rules.specs.Tables.{at, cleared}
+use Rattle.std.proofs.lemmas.List.{length-replicate, get_or-replicate}
+use Rattle.std.proofs.lemmas.Nat.{pow_pos}
+use Rattle.rules.specs.Tables.{at}
 use Rattle.rules.specs.Scan.{least}
 use Rattle.table_laws.specs.Count.{each_suc}
-use Rattle.table_laws.specs.Scans.{least_start, least_same}
-use Rattle.table_laws.specs.Tables.{at_same, at_other, cleared_at, cleared_length}
-use Rattle.walks.specs.Sets.{power, shifted, has, power_pos, power_le, has_none}
-use Rattle.walks.specs.Walked.{Least, least_outside, least_past, least_alone, least_onward}
+use Rattle.table_laws.specs.Scans.{least_start}
+use Rattle.table_laws.specs.Updates.{Updated, update_more}
+use Rattle.walks.specs.Sets.{alone, has, alone_le, has_none, has_past}
+use Rattle.walks.specs.Square.{row_at, guard_in}
+use Rattle.walks.specs.Walked.{Least, least_outside, least_alone, least_onward}
 
--- the least way on from a position whose guards are given, through the set that is left: one guard, and the
--- least walk from there
-abbrev pub onward : List ℕ → List ℕ → ℕ → ℕ
-onward walks guards rest = least 255 (λ i. at guards i + at walks (8 * rest + i)) 8
+-- the least way on from a position with these guards, through a set with these least walks: one guard, and the walk from
+-- there
+abbrev pub onward : List ℕ → List ℕ → ℕ
+onward guards walks = least 255 (λ i. at guards i + at walks i) 8
 
-pub onward_row : (walks guards : List ℕ) (rest : ℕ) (guard : ℕ → ℕ) → ((i : ℕ) → i < 8 → at guards i ≡ guard i) → onward walks guards rest ≡ least 255 (λ i. guard i + at walks (8 * rest + i)) 8
-onward_row walks guards rest guard row = least_same 255 (λ i. at guards i + at walks (8 * rest + i)) (λ i. guard i + at walks (8 * rest + i)) 8 (λ i h. rw (row i h))
-
--- for the code: what is more than 255 is not below it
-pub capped_next : (f : ℕ → ℕ) (i r v : ℕ) → r ≡ least 255 f i → v ≡ min 255 (f i) → min r v ≡ least 255 f (suc i)
+-- for the code: one step of a least, of numbers that stop at 255
+pub least_none : (f : ℕ → ℕ) → least 255 f 0 ≡ 255
 unfolding least
-capped_next f i r v e g = omega (arith, least_start 255 f i)
+least_none f = refl
 
--- the least walk through the set s from a position: `own` is the set of that position alone, `cut` is s
--- with the positions before it cut off. 255 where it is not in s
-unfoldable pub least_from : List ℕ → List ℕ → ℕ → ℕ → ℕ → ℕ
-least_from walks guards s own cut = cond (eqb (cut % 2) 1) (cond (eqb s own) 0 (onward walks guards (s - own))) 255
+pub least_more : (f : ℕ → ℕ) (i : ℕ) → least 255 f (i + 1) ≡ min (least 255 f i) (min (f i) 255)
+unfolding least
+least_more f i = rw add-one (omega (arith, least_start 255 f i))
 
-module _ (guard : ℕ → ℕ → ℕ) (k : ℕ) where
-  -- the sets below s are filled, and s itself from the positions below j
-  pub record Filled (s j : ℕ) (walks : List ℕ) : Type 0 where
-    pub done : (t i : ℕ) → t < s → i < 8 → Least guard k t i (at walks (8 * t + i))
-    pub here : (i : ℕ) → i < j → Least guard k s i (at walks (8 * s + i))
-    pub left : (x : ℕ) → 8 * s + j ≤ x → x < length walks → at walks x ≡ 255
+pub ruleset least_steps = (least_none, least_more)
 
-  -- one position more
-  pub filled_more : (s j v : ℕ) (walks guards : List ℕ) → Filled s j walks → j < k → k ≤ 8 → 8 * s + 8 ≤ length walks
-      → ((i : ℕ) → i < 8 → at guards i ≡ guard j i) → (own cut : ℕ) → own ≡ power j → cut ≡ shifted s j → v ≡ least_from walks guards s own cut
-      → Filled s (j + 1) (set walks (8 * s + j) v)
-  filled_more s j v walks guards f l few room row own cut a b e = rw (add-one j) record {
-    done = λ t i h g. subst (Least guard k t i) (sym (at_other walks (8 * s + j) v (8 * t + i) (λ z. omega arith))) (f.done t i h g);
-    here = each_suc (λ i. Least guard k s i (at (set walks (8 * s + j) v) (8 * s + i))) j
-        (λ i h. subst (Least guard k s i) (sym (at_other walks (8 * s + j) v (8 * s + i) (λ z. omega arith))) (f.here i h))
-        (subst (Least guard k s j) (sym (at_same walks (8 * s + j) v (omega arith))) (rw (e, a, b) new));
-    left = λ x h g. at_other walks (8 * s + j) v x (λ z. omega arith) ∙ f.left x (omega arith) (omega (arith, length-set walks (8 * s + j) v));
+-- the least walk through the set s from position j; 255 where it is not in s
+unfoldable pub least_from : List (List ℕ) → List (List ℕ) → ℕ → ℕ → ℕ
+least_from square walks s j = cond (has s j) (cond (eqb (s - alone j) 0) 0 (onward (row_at square j) (row_at walks (s - alone j)))) 255
+
+-- the rows from s on are blank
+pub record Blank (s : ℕ) (walks : List (List ℕ)) : Type 0 where
+  pub rows : (t : ℕ) → s ≤ t → t < length walks → row_at walks t ≡ replicate 8 255
+
+pub blank_table : (size : ℕ) → Blank 0 (replicate size (replicate {A = ℕ} 8 255))
+blank_table size = record { rows = λ t h l. get_or-replicate size t (replicate {A = ℕ} 8 255) [] (omega (arith, length-replicate size (replicate {A = ℕ} 8 255))) }
+
+-- row s alone is being filled, and is at its first j positions
+pub record Filling (square : List (List ℕ)) (s j : ℕ) (before after : List (List ℕ)) : Type 0 where
+  pub long : length after ≡ length before
+  pub others : (t : ℕ) → t ≢ s → row_at after t ≡ row_at before t
+  pub row : Updated (λ i v. least_from square before s i) (replicate 8 255) (row_at after s) j
+
+module _ (square : List (List ℕ)) (s : ℕ) where
+  -- it is not read while it is filled
+  same_walks : (before walks : List (List ℕ)) (j : ℕ) → ((t : ℕ) → t ≢ s → row_at walks t ≡ row_at before t) → least_from square walks s j ≡ least_from square before s j
+  unfolding least_from
+  same_walks before walks j others = go (has s j) refl
+    where
+      go : (b : Bool) → has s j ≡ b
+          → cond b (cond (eqb (s - alone j) 0) 0 (onward (row_at square j) (row_at walks (s - alone j)))) 255
+          ≡ cond b (cond (eqb (s - alone j) 0) 0 (onward (row_at square j) (row_at before (s - alone j)))) 255
+      go false e = refl
+      go true e = rw (others (s - alone j) (λ z. omega (arith, alone_le s j e, pow_pos j)))
+
+  pub filling_more : (before walks : List (List ℕ)) (j v : ℕ) → Filling square s j before walks → j < 8 → s < length walks → v ≡ least_from square walks s j
+      → Filling square s (j + 1) before (set walks s (set (row_at walks s) j v))
+  filling_more before walks j v f l room e = record {
+    long = length-set walks s (set (row_at walks s) j v) ∙ f.long;
+    others = λ t ne. get_or-set_other walks s t (set (row_at walks s) j v) [] ne ∙ f.others t ne;
+    row = rw (get_or-set_same walks s (set (row_at walks s) j v) [] room) (update_more _ _ _ j v f.row (omega (arith, length-replicate {A = ℕ} 8 255)) (e ∙ same_walks before walks j f.others));
+  }
+
+module _ (square : List (List ℕ)) (k : ℕ) where
+  -- the sets below s are filled, and no other
+  pub record Filled (s : ℕ) (walks : List (List ℕ)) : Type 0 where
+    pub done : (t i : ℕ) → t < s → i < 8 → Least (guard_in square) k t i (at (row_at walks t) i)
+    pub left : Blank s walks
+
+  -- at first there is the empty set alone, which has no walk
+  pub filled_none : (walks : List (List ℕ)) → Blank 0 walks → 0 < length walks → Filled 1 walks
+  filled_none walks b room = record {
+    done = λ t i h g. let z : t ≡ 0 = omega arith in rw (z, b.rows 0 (omega arith) room, get_or-replicate {A = ℕ} 8 i 255 0 g) (least_outside (guard_in square) k 0 i (has_none i));
+    left = record { rows = λ t h l. b.rows t (omega arith) l };
+  }
+
+  -- one set more: its positions are among the first k
+  pub filled_more : (s : ℕ) (before walks : List (List ℕ)) → Filled s before → k ≤ 8 → s < alone k → Filling square s k before walks → Filled (s + 1) walks
+  filled_more s before walks f few small u = rw add-one record {
+    done = λ t i h g. each_suc (λ t. Least guard k t i (at (row_at walks t) i)) s
+        (λ t h. rw (u.others t (λ z. omega arith)) (f.done t i h g))
+        (own i g (dec_lt i k)) t h;
+    left = record { rows = λ t h l. u.others t (λ z. omega arith) ∙ f.left.rows t (omega arith) (omega (arith, u.long)) };
   }
     where
-      rest : ℕ
-      rest = s - power j
+      guard : ℕ → ℕ → ℕ
+      guard = guard_in square
 
-      more : has s j ≡ true → eqb s (power j) ≡ false → Least guard k s j (onward walks guards rest)
-      more q z =
-          let p = power_le s j q in
-          let pos = power_pos j in
-          let ne = eqb-false s (power j) z in
-          least_onward guard k s j (onward walks guards rest) (λ i. at walks (8 * rest + i)) q (omega arith) (λ i h. f.done rest i (omega arith) h) few l
-          (onward_row walks guards rest (guard j) row)
+      rest : ℕ → ℕ
+      rest j = s - alone j
 
-      alone : has s j ≡ true → (b : Bool) → eqb s (power j) ≡ b → Least guard k s j (cond b 0 (onward walks guards rest))
-      alone q true z = rw (eqb-true s (power j) z) (least_alone guard k j l)
-      alone q false z = more q z
+      inside : (j : ℕ) → j < k → (a : Bool) → has s j ≡ a → (b : Bool) → eqb (rest j) 0 ≡ b
+          → Least guard k s j (cond a (cond b 0 (onward (row_at square j) (row_at before (rest j)))) 255)
+      inside j l false e b z = least_outside guard k s j e
+      inside j l true e true z = let own : s ≡ alone j = omega (arith, alone_le s j e, eqb-true (rest j) 0 z) in rw own (least_alone guard k j l)
+      inside j l true e false z =
+          let pos = pow_pos j in
+          let ne = eqb-false (rest j) 0 z in
+          least_onward guard k s j (onward (row_at square j) (row_at before (rest j))) (at (row_at before (rest j))) e (omega arith) (λ i h. f.done (rest j) i (omega arith) h) few l refl
 
-      inside : (b : Bool) → has s j ≡ b → Least guard k s j (cond b (cond (eqb s (power j)) 0 (onward walks guards rest)) 255)
-      inside true q = alone q (eqb s (power j)) refl
-      inside false q = least_outside guard k s j q
-
-      new : Least guard k s j (least_from walks guards s (power j) (shifted s j))
-      new = unfold least_from has in inside (eqb (shifted s j % 2) 1) refl
-
-  -- a set is filled
-  pub filled_set : (s : ℕ) (walks : List ℕ) → Filled s k walks → k ≤ 8 → 8 * s + 8 ≤ length walks → Filled (suc s) 0 walks
-  filled_set s walks f few room = record {
-    done = λ t i h g. each_suc (λ t. Least guard k t i (at walks (8 * t + i))) s (λ t h. f.done t i h g) (own i g (dec_lt i k)) t h;
-    here = λ i l. absurd (omega arith);
-    left = λ x h g. f.left x (omega arith) g;
-  }
-    where
-      own : (i : ℕ) → i < 8 → Dec (i < k) → Least guard k s i (at walks (8 * s + i))
-      own i g (yes l) = f.here i l
-      own i g (no l) = rw (f.left (8 * s + i) (omega arith) (omega arith)) (least_past guard k s i (omega arith))
-
-  -- at first there is the empty set alone
-  pub filled_none : (size : ℕ) (walks : List ℕ) → 8 ≤ size → walks ≡ cleared size 255 → Filled 1 0 walks
-  filled_none size walks room e = rw e record {
-    done = λ t i h g. let z : t ≡ 0 = omega arith in rw (z, cleared_at size 255 (8 * 0 + i) (omega arith)) (least_outside guard k 0 i (has_none i));
-    here = λ i l. absurd (omega arith);
-    left = λ x h g. cleared_at size 255 x (omega (arith, cleared_length size 255));
-  }
+      own : (i : ℕ) → i < 8 → Dec (i < k) → Least guard k s i (at (row_at walks s) i)
+      own i g (yes l) = rw (u.row.done i l) (unfold least_from in inside i l (has s i) refl (eqb (rest i) 0) refl)
+      own i g (no l) = rw (u.row.left i (omega arith), get_or-replicate {A = ℕ} 8 i 255 0 g) (least_outside guard k s i (has_past s k i small (omega arith)))

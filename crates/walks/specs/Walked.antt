@@ -13,7 +13,7 @@ use Rattle.table_laws.specs.Scans.{found_at, least_le, least_at, sum_front}
 use Rattle.table_laws.specs.Count.{count_le, count_some}
 use Rattle.table_laws.specs.Orders.{placed_not, count_placed}
 use Rattle.plan_laws.specs.Walks.{shortest_is}
-use Rattle.walks.specs.Sets.{power, has, members, power_le, has_taken, has_all, members_have}
+use Rattle.walks.specs.Sets.{alone, has, members, alone_le, has_taken, has_all, members_have}
 
 -- an order with j before it
 unfoldable pub before : ℕ → (ℕ → ℕ) → ℕ → ℕ
@@ -72,12 +72,12 @@ module _ (guard : ℕ → ℕ → ℕ) (k : ℕ) where
   steps_front : (o : ℕ → ℕ) (m : ℕ) → steps o (suc m) ≡ guard (o 0) (o 1) + steps (λ i. o (suc i)) m
   steps_front o m = sum_front (λ i. guard (o i) (o (suc i))) m
 
-  members_front : (o : ℕ → ℕ) (m : ℕ) → members o (suc m) ≡ power (o 0) + members (λ i. o (suc i)) m
+  members_front : (o : ℕ → ℕ) (m : ℕ) → members o (suc m) ≡ alone (o 0) + members (λ i. o (suc i)) m
   unfolding members
-  members_front o m = sum_front (λ i. power (o i)) m
+  members_front o m = sum_front (λ i. alone (o i)) m
 
   -- a walk through one position has no guards
-  pub least_alone : (j : ℕ) → j < k → Least (power j) j 0
+  pub least_alone : (j : ℕ) → j < k → Least (alone j) j 0
   unfolding sum members
   least_alone j l = record {
     low = λ o m t. omega arith;
@@ -85,20 +85,20 @@ module _ (guard : ℕ → ℕ → ℕ) (k : ℕ) where
   }
 
   -- a walk from j through more goes on from some other position of the set through all but j
-  pub least_onward : (s j v : ℕ) (row : ℕ → ℕ) → has s j ≡ true → 0 < s - power j → ((i : ℕ) → i < 8 → Least (s - power j) i (row i)) → k ≤ 8 → j < k
+  pub least_onward : (s j v : ℕ) (row : ℕ → ℕ) → has s j ≡ true → 0 < s - alone j → ((i : ℕ) → i < 8 → Least (s - alone j) i (row i)) → k ≤ 8 → j < k
       → v ≡ least 255 (λ i. guard j i + row i) 8 → Least s j v
   least_onward s j v row own more rows few l e = record { low = low; some = some }
     where
       low : (o : ℕ → ℕ) (m : ℕ) → Through s j o m → v ≤ steps o m
-      low o zero t = absurd (omega (arith, members_front o 0, t.all, ap power t.begins, none))
+      low o zero t = absurd (omega (arith, members_front o 0, t.all, ap (λ x. alone x) t.begins, none))
         where
           none : members (λ i. o (suc i)) 0 ≡ 0
           none = unfold members sum in refl
       low o (suc m) t =
-          let next : Through (s - power j) (o 1) (λ i. o (suc i)) m = record {
+          let next : Through (s - alone j) (o 1) (λ i. o (suc i)) m = record {
             order = rest_order o k (suc m) t.order;
             begins = refl;
-            all = omega (arith, members_front o (suc m), t.all, ap power t.begins);
+            all = omega (arith, members_front o (suc m), t.all, ap (λ x. alone x) t.begins);
           } in
           let inside = t.order.inside 1 (omega arith) in
           let here = least_le 255 (λ i. guard j i + row i) 8 (o 1) (omega arith) in
@@ -107,11 +107,11 @@ module _ (guard : ℕ → ℕ → ℕ) (k : ℕ) where
       Found : Type 0
       Found = (o : ℕ → ℕ) × (m : ℕ) × Through s j o m × (v ≡ steps o m)
 
-      joined : (i : ℕ) → v ≡ guard j i + row i → (o : ℕ → ℕ) (m : ℕ) → Through (s - power j) i o m → row i ≡ steps o m → Found
+      joined : (i : ℕ) → v ≡ guard j i + row i → (o : ℕ → ℕ) (m : ℕ) → Through (s - alone j) i o m → row i ≡ steps o m → Found
       joined i z o m t q = (before j o, suc m, record { order = order; begins = begins; all = all }, z ∙ omega (arith, walked))
         where
           free : placed o (suc m) j ≡ false
-          free = sym (through_has (s - power j) i o m t j) ∙ has_taken s j own
+          free = sym (through_has (s - alone j) i o m t j) ∙ has_taken s j own
 
           order : Order (before j o) k (suc (suc m))
           order = record {
@@ -123,7 +123,7 @@ module _ (guard : ℕ → ℕ → ℕ) (k : ℕ) where
           begins = unfold before in refl
 
           all : members (before j o) (suc (suc m)) ≡ s
-          all = unfold before in omega (arith, members_front (before j o) (suc m), t.all, power_le s j own)
+          all = unfold before in omega (arith, members_front (before j o) (suc m), t.all, alone_le s j own)
 
           walked : steps (before j o) (suc m) ≡ guard j i + row i
           walked = unfold before in omega (arith, steps_front (before j o) m, q, ap (guard j) t.begins)
@@ -136,17 +136,17 @@ module _ (guard : ℕ → ℕ → ℕ) (k : ℕ) where
           go (inr (i, h, z)) = let x = (rows i h).some (omega arith) in joined i (e ∙ z) x.0 x.1 x.2 x.3
 
   -- a walk through all positions is along a whole order
-  whole : (i : ℕ) (o : ℕ → ℕ) (m : ℕ) → Through (power k - 1) i o m → suc m ≡ k
+  whole : (i : ℕ) (o : ℕ → ℕ) (m : ℕ) → Through (alone k - 1) i o m → suc m ≡ k
   whole i o m t = pick (dec_lt (suc m) k)
     where
       pick : Dec (suc m < k) → suc m ≡ k
       pick (yes l) =
           let x = count_some (placed o (suc m)) k (omega (arith, count_placed o k (suc m) t.order)) in
-          absurd (true≢false (sym (has_all k x.0 x.1) ∙ through_has (power k - 1) i o m t x.0 ∙ x.2))
+          absurd (true≢false (sym (has_all k x.0 x.1) ∙ through_has (alone k - 1) i o m t x.0 ∙ x.2))
       pick (no g) = omega (arith, count_placed o k (suc m) t.order, count_le (placed o (suc m)) k)
 
   -- a walk through all that no order is below is the shortest
-  pub through_shortest : (i r : ℕ) (o : ℕ → ℕ) (m : ℕ) → Through (power k - 1) i o m → r ≡ steps o m → ((x : ℕ → ℕ) → Order x k k → r ≤ steps x (k - 1))
+  pub through_shortest : (i r : ℕ) (o : ℕ → ℕ) (m : ℕ) → Through (alone k - 1) i o m → r ≡ steps o m → ((x : ℕ → ℕ) → Order x k k → r ≤ steps x (k - 1))
       → r ≡ shortest guard k
   unfolding walk_length
   through_shortest i r o m t e below =

@@ -2,195 +2,155 @@
 // last position: it is two walks away from there, one through some of the positions before it and one through
 // the rest, so that only walks through sets of those are kept. They are built up by sets: the least walks
 // through a set come from those through the set with one position less, and no order is walked twice. A set is
-// a number, bit j being position j; a table of walks has 8 cells for each set, one for each position at which
-// a walk may begin.
+// a number, bit j being position j; a table of walks has a row for each set, and in it a cell for each position
+// at which a walk may begin.
 #![tactic(auto)]
 
-ghost use Rattle.std.specs.Prelude.{◌≡◌, ℕ, suc, ◌+◌, ◌-◌, ◌*◌, ◌/◌, ◌%◌, ◌≤◌, ◌<◌, min, length};
-ghost use Rattle.rules.specs.Tables.{at, cleared};
-ghost use Rattle.rules.specs.Floor.{shortest as shortestWalk};
-ghost use Rattle.walks.specs.Sets.{power};
-ghost use Rattle.walks.specs.Square.{Row, Square, Walkable, guard_in};
-ghost use Rattle.walks.specs.Filled.{onward as onwardOf, least_from, Filled};
-ghost use Rattle.walks.specs.Joined.{away as awayOf, least_joined};
+ghost use Rattle.std.specs.Prelude.{◌≡◌, ℕ, ◌+◌, ◌-◌, ◌/◌, ◌^◌, ◌≤◌, ◌<◌, length, replicate};
+ghost use Rattle.std.proofs.Props.{props};
+ghost use Rattle.rules.specs.Tables.{at};
+ghost use Rattle.rules.specs.Floor.{shortest};
+ghost use Rattle.plan_laws.specs.Answers.{Floorable};
+ghost use Rattle.network.specs.Lent.{lent};
+ghost use Rattle.walks.specs.Square.{row_at, guard_in, Row, SquareOf, Walkable};
+ghost use Rattle.walks.specs.Filled.{onward, least_from, Blank, Filling};
+ghost use Rattle.walks.specs.Joined.{away, least_joined};
+
+use network::Network;
+use rules::{LIST_MOST, NO_CONFLICT};
 
 // Stands for no walk. Through eight paths none is longer than seven guards of 32.
 const NO_WALK: u8 = 255;
 
-// Row p of the square: the guards of the path at position p with each path of the list, 255 past it.
-fn row_of(guards: &[u8], list: &[u8], p: usize) -> [u8; 8]
-    requires { (length guards.now ≡ 16384) × ((length list.now ≤ 8) × ((p < length list.now)
-        × ((i : ℕ) → i < length list.now → at list.now i < 128))) }
-    ensures { Row guards.now list.now p result }
+// The guards of a path with each path of a list, 255 past it.
+fn row_of(net: &Network, list: &[u8], from: usize) -> [u8; LIST_MOST]
+    requires { (from < net.now.n) × (length list.now ≤ 8)
+        × ((i : ℕ) → i < length list.now → at list.now i < net.now.n) }
+    ensures { Row net.now.guards.now list.now from result }
 {
-    let from = list[p] as usize;
-    let mut row = [rules::NO_CONFLICT; 8];
-    let mut q: usize = 0;
-    while q < list.len() {
-        let to = list[q] as usize;
-        row[q] = guards[rules::PATHS * from + to];
-        q += 1;
+    let mut row = [NO_CONFLICT; LIST_MOST];
+    for (q, to) in list.iter().enumerate() {
+        row[q] = net.guard(from, usize::from(*to));
     }
     row
 }
 
-// The guards of the list, by position.
-pub fn square_of(guards: &[u8], list: &[u8]) -> [[u8; 8]; 8]
-    requires { (length guards.now ≡ 16384) × ((length list.now ≤ 8)
-        × ((i : ℕ) → i < length list.now → at list.now i < 128)) }
-    ensures { Square guards.now list.now result }
-{
-    let mut square = [[rules::NO_CONFLICT; 8]; 8];
-    let mut p: usize = 0;
-    while p < list.len() {
-        square[p] = row_of(guards, list, p);
-        p += 1;
+// The guards of a list, by position.
+#[derive(Drop)]
+pub struct Square {
+    pub guards: [[u8; LIST_MOST]; LIST_MOST],
+    pub size: usize,
+    ghost walkable: { Walkable (guard_in guards) size } by { Prim.hlevel props },
+}
+
+impl Square {
+    pub fn of(net: &Network, list: &[u8]) -> Square
+        requires { Floorable net.now.n (lent net.now) list.now }
+        ensures size { result.size ≡ length list.now }
+        ensures guards { SquareOf net.now.guards.now list.now result.guards }
+    {
+        let mut guards = [[NO_CONFLICT; LIST_MOST]; LIST_MOST];
+        for (p, from) in list.iter().enumerate() {
+            guards[p] = row_of(net, list, usize::from(*from));
+        }
+        Square {
+            guards,
+            size: list.len(),
+        }
     }
-    square
-}
 
-// A guard and the walk after it; no walk where that does not fit a byte.
-fn step(guard: u8, walk: u8) -> u8
-    ensures { result ≡ min 255 (guard + walk) }
-{
-    if NO_WALK - walk < guard {
-        NO_WALK
-    } else {
-        guard + walk
+    // The shortest walk through all positions. The table has a row for each set of those before the last, which are
+    // seven at most; a small one is sooner cleared.
+    pub fn shortest(&self) -> u8
+        ensures { result ≡ shortest (guard_in self.now.guards) self.now.size }
+    {
+        if self.size <= 5 {
+            self.shortest_in(&mut [[NO_WALK; LIST_MOST]; 16])
+        } else {
+            self.shortest_in(&mut [[NO_WALK; LIST_MOST]; 128])
+        }
+    }
+
+    // The same, in a blank table with room for all sets of the positions before the last: they are filled one after the
+    // other.
+    fn shortest_in(&self, walks: &mut [[u8; LIST_MOST]]) -> u8
+        requires room { 2 ^ (self.now.size - 1) ≤ length walks.old }
+        requires blank { Blank 0 walks.old }
+        ensures { result ≡ shortest (guard_in self.now.guards) self.now.size }
+    {
+        let half = 1 << (self.size - 1);
+        for s in 1..half {
+            self.fill_set(walks, s);
+        }
+        self.least_joined(walks, half)
+    }
+
+    // Fills the row of the set s, when all sets of smaller numbers are filled: every set that s is with one position less
+    // is among them. It is filled in its place: a row that is made elsewhere is stored by bytes and then read whole,
+    // which takes longer.
+    fn fill_set(&self, walks: &mut [[u8; LIST_MOST]], s: usize)
+        requires { (s < length walks.old) × (row_at walks.old s ≡ replicate 8 255) }
+        ensures { Filling self.now.guards s (self.now.size - 1) walks.old walks.new }
+    {
+        for j in 0..self.size - 1 {
+            walks[s][j] = self.least_from(walks, s, j);
+        }
+    }
+
+    // The least walk through the set s from position j.
+    fn least_from(&self, walks: &[[u8; LIST_MOST]], s: usize, j: usize) -> u8
+        requires { (j < 8) × (s < length walks.now) }
+        ensures { result ≡ least_from self.now.guards walks.now s j }
+    {
+        if s >> j & 1 == 0 {
+            return NO_WALK;
+        }
+        let rest = s - (1 << j);
+        if rest == 0 {
+            0
+        } else {
+            onward(&self.guards[j], &walks[rest])
+        }
+    }
+
+    // The least walk that passes the last position: away from it through a set s of those before it, and through the rest
+    // of them, which is half - 1 - s. Of the two one is below the middle, and which of them comes first makes no
+    // difference, so that s goes no further.
+    #[tactic(auto, using(crate::specs::Filled::least_steps), unfolding(crate::specs::Joined::least_joined))]
+    fn least_joined(&self, walks: &[[u8; LIST_MOST]], half: usize) -> u8
+        requires { (1 ≤ half) × (half ≤ length walks.now) }
+        ensures { result
+            ≡ least_joined (row_at self.now.guards (self.now.size - 1)) walks.now half ((half + 1) / 2) }
+    {
+        let guards = &self.guards[self.size - 1];
+        let mut best = NO_WALK;
+        for s in 0..half.div_ceil(2) {
+            let walk = away(guards, walks, s).saturating_add(away(guards, walks, half - 1 - s));
+            best = best.min(walk);
+        }
+        best
     }
 }
 
-fn smaller(a: u8, b: u8) -> u8
-    ensures { result ≡ min a b }
-{
-    if b < a { b } else { a }
-}
-
-// The least way on from a position with these guards through the set that is left: one guard, and the least
+// The least way on from a position with these guards through a set that has these least walks: one guard, and the
 // walk from there.
-fn onward(walks: &[u8], guards: [u8; 8], rest: usize) -> u8
-    requires { (rest < 256) × (8 * rest + 8 ≤ length walks.now) }
-    ensures { result ≡ onwardOf walks.now guards rest }
+#[tactic(auto, using(crate::specs::Filled::least_steps))]
+fn onward(guards: &[u8; LIST_MOST], walks: &[u8; LIST_MOST]) -> u8
+    ensures { result ≡ onward guards.now walks.now }
 {
     let mut best = NO_WALK;
-    let mut i: usize = 0;
-    while i < 8 {
-        best = smaller(best, step(guards[i], walks[8 * rest + i]));
-        i += 1;
+    for (guard, walk) in guards.iter().zip(walks) {
+        best = best.min(guard.saturating_add(*walk));
     }
     best
-}
-
-// The least walk through the set s from a position with these guards: own is that position alone, cut is s
-// with the positions before it cut off.
-fn least_from(walks: &[u8], guards: [u8; 8], s: usize, own: usize, cut: usize) -> u8
-    requires { (s < 256) × ((8 * s + 8 ≤ length walks.now) × (cut % 2 ≡ 1 → own ≤ s)) }
-    ensures { result ≡ least_from walks.now guards s own cut }
-{
-    if cut % 2 != 1 {
-        return NO_WALK;
-    }
-    if s == own {
-        return 0;
-    }
-    onward(walks, guards, s - own)
-}
-
-// Fills the cells of the set s of the first k positions, when all sets of smaller numbers are filled: every
-// set that s is with one position less is among them.
-fn fill_set(square: &[[u8; 8]; 8], k: usize, s: usize, walks: &mut [u8])
-    requires { (k ≤ 8) × ((s < power k) × ((8 * s + 8 ≤ length walks.old)
-        × Filled (guard_in square.now) k s 0 walks.old)) }
-    ensures { (length walks.new ≡ length walks.old)
-        × Filled (guard_in square.now) k (suc s) 0 walks.new }
-{
-    let mut own: usize = 1;
-    let mut cut: usize = s;
-    let mut j: usize = 0;
-    while j < k {
-        walks[8 * s + j] = least_from(walks, square[j], s, own, cut);
-        own += own;
-        cut /= 2;
-        j += 1;
-    }
-}
-
-// How many sets of k positions there are.
-fn sets(k: usize) -> usize
-    requires { k ≤ 8 }
-    ensures { result ≡ power k }
-{
-    let mut all: usize = 1;
-    let mut j: usize = 0;
-    while j < k {
-        all += all;
-        j += 1;
-    }
-    all
 }
 
 // The least way on from the last position, which has these guards, through the set s: 0 where it is empty, as
 // the walk may begin or end at the last position.
-fn away(walks: &[u8], guards: [u8; 8], s: usize) -> u8
-    requires { (s < 256) × (8 * s + 8 ≤ length walks.now) }
-    ensures { result ≡ awayOf walks.now guards s }
+#[tactic(auto, using(std::proofs::lemmas::Bool::Decides::nat_tests), unfolding(crate::specs::Joined::away))]
+fn away(guards: &[u8; LIST_MOST], walks: &[[u8; LIST_MOST]], s: usize) -> u8
+    requires { s < length walks.now }
+    ensures { result ≡ away guards.now walks.now s }
 {
-    if s == 0 {
-        return 0;
-    }
-    onward(walks, guards, s)
-}
-
-// The least walk that passes the last position, which has these guards: away from it through a set s of those
-// before it, and through the rest of them, which is half - 1 - s. Of the two one is below the middle, and which
-// of them comes first makes no difference, so that s goes no further.
-fn least_joined(walks: &[u8], guards: [u8; 8], half: usize) -> u8
-    requires { (1 ≤ half) × ((half ≤ 256) × (8 * half ≤ length walks.now)) }
-    ensures { result ≡ least_joined walks.now guards half ((half + 1) / 2) }
-{
-    let mut best = NO_WALK;
-    let mut s: usize = 0;
-    while s + s < half {
-        let walk = step(away(walks, guards, s), away(walks, guards, half - 1 - s));
-        best = smaller(best, walk);
-        s += 1;
-    }
-    best
-}
-
-// The shortest walk through the positions up to the last, in a blank table: the sets of those before it are
-// filled one after the other.
-fn shortest_in(square: &[[u8; 8]; 8], last: usize, walks: &mut [u8]) -> u8
-    requires { (last < 8) × (Walkable (guard_in square.now) (suc last)
-        × ((size : ℕ) × ((8 * power last ≤ size) × (walks.old ≡ cleared size 255)))) }
-    ensures { result ≡ shortestWalk (guard_in square.now) (suc last) }
-{
-    let half = sets(last);
-    let mut s: usize = 1;
-    while s < half {
-        fill_set(square, last, s, walks);
-        s += 1;
-    }
-    least_joined(walks, square[last], half)
-}
-
-// The same of at most five positions, in a table that is sooner cleared.
-fn shortest_of_few(square: &[[u8; 8]; 8], last: usize) -> u8
-    requires { (last < 5) × Walkable (guard_in square.now) (suc last) }
-    ensures { result ≡ shortestWalk (guard_in square.now) (suc last) }
-{
-    let mut walks = [NO_WALK; 128];
-    shortest_in(square, last, &mut walks)
-}
-
-// The shortest walk through the first k positions of a square.
-pub fn shortest(square: &[[u8; 8]; 8], k: usize) -> u8
-    requires { (1 ≤ k) × ((k ≤ 8) × Walkable (guard_in square.now) k) }
-    ensures { result ≡ shortestWalk (guard_in square.now) k }
-{
-    if k <= 5 {
-        return shortest_of_few(square, k - 1);
-    }
-    let mut walks = [NO_WALK; 1024];
-    shortest_in(square, k - 1, &mut walks)
+    if s == 0 { 0 } else { onward(guards, &walks[s]) }
 }

@@ -1,114 +1,85 @@
 // An inner crate, for `reader`: the sections of a sheet in their fixed order, each after its count.
 #![tactic(auto)]
 
-ghost use Rattle.std.specs.Prelude.{◌≡◌, ◌≤◌, length, drop};
+ghost use Rattle.std.specs.Prelude.{◌≡◌, ◌≤◌, [], length};
 ghost use Rattle.rules.specs.Tables.{lend};
 ghost use Rattle.rules.specs.Sheet.{starts_part, guards_part, sheet_from};
-ghost use Rattle.sections.specs.Says.{SectionIs, PartWithin};
-ghost use Rattle.whole_sheet.specs.Says.{WholeIs};
+ghost use Rattle.sections.specs.Says.{section_by, ended_of};
 
-use sections::Part;
-use text::Amount;
+use rules::{Cause, Refusal};
 
-// A whole sheet's number of paths, or the number of a refusal and its line.
-#[derive(Drop)]
-pub enum Whole {
-    Sheet(usize),
-    Stop(usize, usize),
-}
-
-// The starts, where there is a plan: their count, 1 where it is not n, and their lines. What stands after
-// them is 11.
+// The starts, where there is a plan: their count, 1 where it is not n, and their lines. What stands after them is 11.
+#[tactic(auto, unfolding(rules::specs::Sheet::starts_part, rules::specs::Sheet::last_part, rules::specs::Sheet::counted, rules::specs::Sheet::after, rules::specs::Sheet::ended))]
 fn starts_part(
     text: &[u8],
-    place: usize,
     n: usize,
     line: usize,
     labels: &[u8],
     table: &mut [u16],
-) -> Part
-    requires { (place ≤ length text.now) × (n ≤ 128) × (length labels.now ≡ 1024)
-        × (n ≤ length table.old) × (line ≤ 9000) }
-    ensures { PartWithin text.now result
-        × SectionIs text.now table.new
-        (starts_part n line labels.now table.old (drop place text.now)) result }
+) -> Result<(), Refusal>
+    requires { (n ≤ 128) × (length labels.now ≡ 1024) × (n ≤ length table.old) × (line ≤ 9000) }
+    ensures { ended_of table.new result ≡ starts_part n line labels.now table.old text.now }
 {
-    if text.len() <= place {
-        return Part::Over(place);
+    if text.is_empty() {
+        return Ok(());
     }
-    let Amount::Is(m, e) = text::count_line(text, place, &text::STARTS_WORD) else {
-        return Part::Halt(rules::REFUSED_FORM, line);
-    };
+    let (m, rest) = text::count_line(text, text::STARTS_WORD).ok_or(Refusal::at(
+        Cause::Form,
+        line,
+    ))?;
     if m != n {
-        return Part::Halt(rules::REFUSED_COUNT, line);
+        return Err(Refusal::at(Cause::Count, line));
     }
-    match sections::starts(text, e, n, line + 1, labels, table) {
-        Part::Halt(x, y) => Part::Halt(x, y),
-        Part::Over(f) => {
-            if f < text.len() {
-                return Part::Halt(rules::REFUSED_FORM, line + 1 + n);
-            }
-            Part::Over(f)
-        }
+    let rest = sections::starts(rest, n, line + 1, labels, table)?;
+    if !rest.is_empty() {
+        return Err(Refusal::at(Cause::Form, line + 1 + n));
     }
+    Ok(())
 }
 
 // The guards: their count, 1 where it is over 2,000, their lines, and what follows them.
+#[tactic(auto, unfolding(rules::specs::Sheet::guards_part, rules::specs::Sheet::counted, rules::specs::Sheet::after))]
 fn guards_part(
     text: &[u8],
-    place: usize,
     n: usize,
     labels: &[u8],
     square: &mut [u8],
     table: &mut [u16],
-) -> Part
-    requires { (place ≤ length text.now) × (n ≤ 128) × (length labels.now ≡ 1024)
-        × (length square.old ≡ 16384) × (n ≤ length table.old) }
-    ensures { PartWithin text.now result
-        × SectionIs text.now (square.new, table.new)
-        (guards_part n labels.now square.old table.old
-        (drop place text.now)) result }
+) -> Result<(), Refusal>
+    requires { (n ≤ 128) × (length labels.now ≡ 1024) × (length square.old ≡ 16384)
+        × (n ≤ length table.old) }
+    ensures { ended_of (square.new, table.new) result ≡ guards_part n labels.now square.old table.old text.now }
 {
-    let Amount::Is(m, e) = text::count_line(text, place, &text::GUARDS_WORD) else {
-        return Part::Halt(rules::REFUSED_FORM, n + 2);
-    };
+    let (m, rest) = text::count_line(text, text::GUARDS_WORD).ok_or(Refusal::at(
+        Cause::Form,
+        n + 2,
+    ))?;
     if rules::PAIRS_MOST < m {
-        return Part::Halt(rules::REFUSED_COUNT, n + 2);
+        return Err(Refusal::at(Cause::Count, n + 2));
     }
-    match sections::guards(text, e, n, m, labels, square) {
-        Part::Halt(x, y) => Part::Halt(x, y),
-        Part::Over(f) => starts_part(text, f, n, n + m + 3, labels, table),
-    }
+    let rest = sections::guards(rest, n, m, labels, square)?;
+    starts_part(rest, n, n + m + 3, labels, table)
 }
 
 // The paths: their count, 1 where it is not 1 to 128, their lines, and what follows them.
+#[tactic(auto, unfolding(rules::specs::Sheet::sheet_from, rules::specs::Sheet::counted, rules::specs::Sheet::after))]
 pub fn sheet_parts(
     text: &[u8],
     labels: &mut [u8],
     widths: &mut [u16],
     square: &mut [u8],
     table: &mut [u16],
-) -> Whole
+) -> Result<usize, Refusal>
     requires { (length labels.old ≡ 1024) × (length widths.old ≡ 128) × (length square.old ≡ 16384)
         × (length table.old ≡ 128) }
-    ensures { WholeIs labels.new widths.new square.new
-        table.new
-        (sheet_from labels.old (lend widths.old square.old) table.old text.now) result }
+    ensures { section_by (λ n. (n, labels.new, lend widths.new square.new, table.new)) (λ n. []) result
+        ≡ sheet_from labels.old (lend widths.old square.old) table.old text.now }
 {
-    let Amount::Is(n, e) = text::count_line(text, 0, &text::PATHS_WORD) else {
-        return Whole::Stop(rules::REFUSED_FORM, 1);
-    };
-    if n < 1 {
-        return Whole::Stop(rules::REFUSED_COUNT, 1);
+    let (n, rest) = text::count_line(text, text::PATHS_WORD).ok_or(Refusal::at(Cause::Form, 1))?;
+    if !(1..=rules::PATHS).contains(&n) {
+        return Err(Refusal::at(Cause::Count, 1));
     }
-    if rules::PATHS < n {
-        return Whole::Stop(rules::REFUSED_COUNT, 1);
-    }
-    match sections::paths(text, e, n, labels, widths) {
-        Part::Halt(x, y) => Whole::Stop(x, y),
-        Part::Over(f) => match guards_part(text, f, n, labels, square, table) {
-            Part::Halt(x, y) => Whole::Stop(x, y),
-            Part::Over(_) => Whole::Sheet(n),
-        },
-    }
+    let rest = sections::paths(rest, n, labels, widths)?;
+    guards_part(rest, n, labels, square, table)?;
+    Ok(n)
 }

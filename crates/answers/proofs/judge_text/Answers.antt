@@ -1,24 +1,27 @@
-use mathlib.Core.List.{[]}
+use Rattle.std.proofs.Common.{◌≡◌, rules, arith}
 use Rattle.rules.specs.Tables.{lend}
-use Rattle.rules.specs.Asking.{valid_text, refused_text, judge_text}
-use Rattle.answers.proofs.Answers.{judge_told, judge_refused, judge_valid, judge_within}
-use Rattle.answers.proofs.Answers.{retold}
-use native.Mathlib.Omega.{arith}
+use Rattle.rules.specs.Numbers.{no_fault, ◌or_else◌, judge_fault}
+use Rattle.rules.specs.Calls.{judging}
+use Rattle.rules.specs.Told.{refused}
+use Rattle.answers.proofs.Plans.{plan_small, judge_refused, judge_valid}
 use Rattle.answers.proofs.judge_text.Goals as goal
+use Rattle.answers.proofs.judge_text.Goals.{In-Err, In-Ok}
+
+-- the tests of a plan are those of judging
+refusal : (c : In-Err) → refused c.in-Err.refusal ≡ judging c.args.n (lend c.args.t.now.widths c.args.t.now.guards) c.args.t.now.starts
+unfolding judging judge_fault ◌or_else◌
+refusal c = c.in-Err.ensures.number
+
+valid : (c : In-Ok) → no_fault ≡ judging c.args.n (lend c.args.t.now.widths c.args.t.now.guards) c.args.t.now.starts
+unfolding judging judge_fault ◌or_else◌
+valid c = c.in-Ok.ensures.number
 
 pub put_refused-requires : goal.put_refused-requires
-put_refused-requires c =
-    (c.requires.0, omega arith, λ z. judge_told c.args.n c.args.labels.now (lend c.args.widths.now c.args.guards.now) c.args.starts.now c.judge-fault.result c.judge-fault.ensures z, c.requires.1)
+put_refused-requires c = (search rules, omega arith, plan_small _ _ _ _ (refusal (goal.at.put_refused-requires c).In-Err), c.requires)
 
-pub returns-then-fault-ne0 : goal.returns-then-fault-ne0
-returns-then-fault-ne0 c =
-    record { wrote = retold c.args.out.now c.put_refused.new.text (refused_text c.args.labels.now [] c.judge-fault.result.number c.judge-fault.result.place c.judge-fault.result.short) (judge_text c.args.n c.args.labels.now (lend c.args.widths.now c.args.guards.now) c.args.starts.now) 0 c.put_refused.result (judge_refused c.args.n c.args.labels.now (lend c.args.widths.now c.args.guards.now) c.args.starts.now c.judge-fault.result c.judge-fault.ensures c.if-fault-ne0.true) c.put_refused.ensures.wrote; upper_bound = c.put_refused.ensures.upper_bound }
+pub returns-in-Err-clause-wrote : goal.returns-in-Err-clause-wrote
+returns-in-Err-clause-wrote c = rw (judge_refused _ _ _ _ (refusal (goal.at.returns-in-Err-clause-wrote c).In-Err)) at c.put_refused.ensures.wrote
 
-pub highest_slot-requires : goal.highest_slot-requires
-highest_slot-requires c =
-    let g = judge_within c.args.n c.args.labels.now (lend c.args.widths.now c.args.guards.now) c.args.starts.now c.judge-fault.result c.judge-fault.ensures c.if-fault-ne0.false in
-    (omega (arith, g.network.few, g.network.widths_size), omega (arith, g.network.few, g.legal.size), λ k l. ((g.network.width k l).0, (g.network.width k l).1, (g.legal.start k l).1))
-
-pub returns : goal.returns
-returns c =
-    record { wrote = retold c.args.out.now c.put_valid.new.text (valid_text c.highest_slot.result) (judge_text c.args.n c.args.labels.now (lend c.args.widths.now c.args.guards.now) c.args.starts.now) 0 c.put_valid.result (judge_valid c.args.n c.args.labels.now (lend c.args.widths.now c.args.guards.now) c.args.starts.now c.judge-fault.result c.judge-fault.ensures c.highest_slot.result c.highest_slot.ensures.0 c.if-fault-ne0.false) c.put_valid.ensures.wrote; upper_bound = c.put_valid.ensures.upper_bound }
+pub returns-in-Ok-clause-wrote : goal.returns-in-Ok-clause-wrote
+returns-in-Ok-clause-wrote c =
+    rw (judge_valid _ _ c.args.t.now.labels _ _ _ _ (valid (goal.at.returns-in-Ok-clause-wrote c).In-Ok) c.in-Ok.ensures.plan _ c.highest_slot.ensures.0) at c.put_valid.ensures.wrote

@@ -3,6 +3,6 @@ use Rattle.console.proofs.read_all.Given as goal
 
 abbrev pub invariant-turns : goal.invariant-turns
 invariant-turns g l = record {
-  came : Came l.initial.text l.have l.text;
-  took : Took (g.R.Read.remaining l.initial.input) (g.R.Read.remaining l.input) l.have l.text;
+  came : Came l.initial.text l.length l.text;
+  took : Took (g.R.Read.remaining l.initial.input) (g.R.Read.remaining l.input) l.length l.text;
 }

@@ -4,6 +4,6 @@ use Rattle.console.proofs.write.Given as goal
 
 abbrev pub invariant-turns : goal.invariant-turns
 invariant-turns g l = record {
-  within : l.done ≤ length l.bytes;
-  wrote : Appends (g.W.Write.contents l.initial.out) (g.W.Write.contents l.out) (take l.done l.bytes);
+  within : l.length ≤ length l.bytes;
+  wrote : Appends (g.W.Write.contents l.initial.out) (g.W.Write.contents l.out) (take l.length l.bytes);
 }

@@ -1,14 +1,16 @@
-use mathlib.Core.Path.{ap, ◌∙◌}
-use mir.Facts.{to_z-of_z}
-use Rattle.rules.specs.Numbers.{anchor_fault}
-use Rattle.grid.proofs.Tests.{centre_anchor, centre_block}
+use Rattle.std.proofs.Common.{ap, ◌∙◌, to_z-of_z, ℤ}
+use Rattle.rules.specs.declared.Fault.{Fault}
+use Rattle.rules.specs.Numbers.{centre_fault}
+use Rattle.rules.specs.Calls.{centre_number}
 use Rattle.grid.proofs.centre_number.Goals as goal
 
-pub returns-then-fault-ne0 : goal.returns-then-fault-ne0
-returns-then-fault-ne0 c =
-    centre_anchor c.args.anchor c.args.start c.args.width c.anchor_fault-fault.result (c.anchor_fault-fault.ensures ∙ ap anchor_fault (to_z-of_z c.ranges.anchor)) c.if-fault-ne0.true
+pub returns-in-Ok : goal.returns-in-Ok
+unfolding centre_number
+returns-in-Ok c =
+    ap (λ (f : Fault). f.number) (c.in-Ok.ensures ∙ ap (λ (a : ℤ). centre_fault a c.args.start c.args.width) (to_z-of_z c.ranges.anchor))
 
-pub returns : goal.returns
-returns c =
-    c.block_number.ensures
-    ∙ centre_block c.args.anchor c.args.start c.args.width c.anchor_fault-fault.result (c.anchor_fault-fault.ensures ∙ ap anchor_fault (to_z-of_z c.ranges.anchor)) c.if-fault-ne0.false
+pub returns-in-Err : goal.returns-in-Err
+unfolding centre_number
+returns-in-Err c =
+    c.number.ensures
+    ∙ ap (λ (f : Fault). f.number) (c.in-Err.ensures ∙ ap (λ (a : ℤ). centre_fault a c.args.start c.args.width) (to_z-of_z c.ranges.anchor))

@@ -1,4 +1,4 @@
-use native.Mathlib.Omega.{arith}
+use Rattle.std.proofs.Common.{arith}
 use Rattle.sheet_laws.specs.Grid.{number_low}
 use Rattle.grid.proofs.number.Goals as goal
 

@@ -1,8 +1,11 @@
+use Rattle.std.proofs.Common.{rules}
 use Rattle.rules.specs.Tables.{lend}
 use Rattle.table_laws.specs.Tables.{blank}
-use Rattle.notes.proofs.Notes.{note_is}
+use Rattle.notes.proofs.Notes.{sides_told}
 use Rattle.notes.proofs.note.Goals as goal
 
-pub returns : goal.returns
-returns c =
-    record { wrote = note_is c.args.n c.args.highest c.args.kept c.pair_count-conflicts.result (lend c.args.widths.now c.args.guards.now) _ c.two_sides-sides.new.order c.args.line.now c.put_note.new.line c.put_note.result c.two_sides-sides.result (blank 128 0) c.two_sides-sides.ensures c.pair_count-conflicts.ensures.0 c.put_note.ensures.wrote; upper_bound = c.put_note.ensures.upper_bound }
+pub returns-clause-wrote : goal.returns-clause-wrote
+returns-clause-wrote c =
+    let sides = sides_told c.args.n (lend c.args.widths.now c.args.guards.now) _ c.two_sides-sides.new.order c.two_sides-sides.result (blank 128 0) c.two_sides-sides.ensures in
+    let put = rw (c.is_ok.ensures.value, c.pair_count-conflicts.ensures.0, sides) at c.put_note.ensures.wrote in
+    search rules

@@ -1,19 +1,15 @@
-use native.Mathlib.Omega.{arith}
-use Rattle.notes.proofs.Notes.{note_wrote, ends_sided, ends_kept}
+use Rattle.notes.specs.Note.{ending, note_text}
 use Rattle.notes.proofs.put_note.Goals as goal
 
-pub returns-then-sided : goal.returns-then-sided
-returns-then-sided c =
-    record {
-      wrote = note_wrote c.args.line.now c.put_part-p.new.line c.put_part-q.new.line c.put_part-e.new.line c.put_word.new.text c.put_part-p.result c.put_part-q.result c.put_part-e.result c.put_word.result c.args.n c.args.conflicts c.args.highest c.args.kept c.put_part-p.ensures.wrote c.put_part-q.ensures.wrote c.put_part-e.ensures.wrote c.args.sided
-          (ends_sided c.args.sided c.if-sided.true c.put_part-e.new.line c.put_word.new.text c.put_part-e.result c.put_word.result c.args.kept c.put_word.ensures);
-      upper_bound = omega (arith, c.put_word.ensures.0);
-    }
+pub returns-then-sided-clause-wrote : goal.returns-then-sided-clause-wrote
+unfolding note_text ending
+returns-then-sided-clause-wrote g c =
+    let laws = g.met.S.Sink.laws in
+    rw c.if-sided.true (laws.both c.put_part.ensures.wrote (laws.both c.put_part-2.ensures.wrote (laws.both c.put_part-3.ensures.wrote c.put_word.ensures)))
 
-pub returns : goal.returns
-returns c =
-    record {
-      wrote = note_wrote c.args.line.now c.put_part-p.new.line c.put_part-q.new.line c.put_part-e.new.line c.put_word-2.new.text c.put_part-p.result c.put_part-q.result c.put_part-e.result c.put_word-2.result c.args.n c.args.conflicts c.args.highest c.args.kept c.put_part-p.ensures.wrote c.put_part-q.ensures.wrote c.put_part-e.ensures.wrote c.args.sided
-          (ends_kept c.args.sided c.if-sided.false c.put_part-e.new.line c.put_part-f.new.line c.put_word-2.new.text c.put_part-e.result c.put_part-f.result c.put_word-2.result c.args.kept c.put_part-f.ensures.wrote c.put_word-2.ensures);
-      upper_bound = omega (arith, c.put_word-2.ensures.0);
-    }
+pub returns-else-sided-clause-wrote : goal.returns-else-sided-clause-wrote
+unfolding note_text ending
+returns-else-sided-clause-wrote g c =
+    let laws = g.met.S.Sink.laws in
+    let swaps = laws.both c.put_part-else-sided.ensures.wrote c.put_word-else-sided.ensures in
+    rw c.if-sided.false (laws.both c.put_part.ensures.wrote (laws.both c.put_part-2.ensures.wrote (laws.both c.put_part-3.ensures.wrote swaps)))

@@ -1,58 +1,52 @@
-use mathlib.Core.Path.{◌≡◌, sym, ap, ◌∙◌}
-use mathlib.Core.List.{List}
-use Prim.Native.Nat.{ℕ}
-use native.Mathlib.Omega.{arith}
-use lib.ListN.{length}
-use lib.Seq.{sets}
-use lib.IntN.{ℤ}
-use mir.Facts.{to_z-of_z}
+use Rattle.std.proofs.Common.{◌≡◌, ℤ, sym, ap, ◌∙◌, to_z-of_z}
+use Rattle.std.proofs.lemmas.Result.{err_from_is_err_and}
 use Rattle.rules.specs.Tables.{lend}
-use Rattle.rules.specs.Grid.{order_text}
-use Rattle.table_laws.specs.Chains.{number_of}
+use Rattle.rules.specs.Numbers.{no_fault}
+use Rattle.rules.specs.Calls.{order_writing}
 use Rattle.sheet_laws.specs.Grid.{lowered}
-use Rattle.sheet_laws.specs.Outcomes.{written_refused, written_short, written_done}
+use Rattle.sheet_laws.specs.Outcomes.{room_is, room_clear, written_err, written_ok}
+use Rattle.table_laws.specs.Results.{clear_none, err_stop, ok_on}
 use Rattle.order_writer.specs.Ready.{Ready}
 use Rattle.order.specs.Tests.{table_fault}
 use Rattle.order.proofs.Outcomes.{table_passed, table_ready, writing_is}
 use Rattle.order.proofs.order_write.Goals as goal
-use Rattle.order.proofs.order_write.Goals.{After-counted-low, After-table_fault-fault}
+use Rattle.order.proofs.order_write.Goals.{After-counted-low}
 
-tested : (c : After-table_fault-fault) → c.table_fault-fault.result ≡ table_fault c.args.anchor c.args.n c.args.labels.now (lend c.args.widths.now c.args.guards.now) c.args.starts.now
-tested c = c.table_fault-fault.ensures ∙ ap (λ (z : ℤ). table_fault z c.args.n c.args.labels.now (lend c.args.widths.now c.args.guards.now) c.args.starts.now) (to_z-of_z c.ranges.anchor)
+-- the tests, by the anchor as it is counted; and so the call
+tested : (c : After-counted-low) → no_fault ≡ table_fault (lowered c.counted-low.result) c.args.n c.args.labels.now (lend c.args.widths.now c.args.guards.now) c.args.starts.now
+tested c = rw c.counted-low.ensures.0 at c.in_ok-check_tables.ensures
+
+the_call : (c : After-counted-low) → order_writing (lowered c.counted-low.result) c.args.n c.args.labels.now (lend c.args.widths.now c.args.guards.now) c.args.starts.now c.args.text.now ≡ order_writing c.args.anchor c.args.n c.args.labels.now (lend c.args.widths.now c.args.guards.now) c.args.starts.now c.args.text.now
+the_call c =
+    ap (λ (z : ℤ). order_writing z c.args.n c.args.labels.now (lend c.args.widths.now c.args.guards.now) c.args.starts.now c.args.text.now) (sym c.counted-low.ensures.0 ∙ to_z-of_z c.ranges.anchor)
 
 ready : (c : After-counted-low) → Ready c.counted-low.result c.args.n c.args.labels.now c.args.widths.now c.args.starts.now
-ready c = let tested : c.table_fault-fault.result ≡ table_fault c.args.anchor c.args.n c.args.labels.now (lend c.args.widths.now c.args.guards.now) c.args.starts.now = c.table_fault-fault.ensures ∙ ap (λ (z : ℤ). table_fault z c.args.n c.args.labels.now (lend c.args.widths.now c.args.guards.now) c.args.starts.now) (to_z-of_z c.ranges.anchor) in table_ready c.args.anchor c.args.n c.args.labels.now (lend c.args.widths.now c.args.guards.now) c.args.starts.now c.counted-low.result c.counted-low.ensures.1 c.counted-low.ensures.2 (number_of (tested) c.if-fault-ne0.false)
+ready c = table_ready _ _ _ _ _ _ c.counted-low.ensures.1 c.counted-low.ensures.2 (clear_none (tested c))
 
--- the sheet, by the anchor as it is counted
-sheet : (c : After-counted-low) → order_text c.args.anchor c.args.n c.args.labels.now c.args.widths.now c.args.starts.now ≡ order_text (lowered c.counted-low.result) c.args.n c.args.labels.now c.args.widths.now c.args.starts.now
-sheet c = ap (λ (z : ℤ). order_text z c.args.n c.args.labels.now c.args.widths.now c.args.starts.now) (sym (to_z-of_z c.ranges.anchor) ∙ c.counted-low.ensures.0)
-
-pub returns-then-fault-ne0 : goal.returns-then-fault-ne0
-returns-then-fault-ne0 c =
-    written_refused (order_text c.args.anchor c.args.n c.args.labels.now c.args.widths.now c.args.starts.now) c.args.text.now (table_fault c.args.anchor c.args.n c.args.labels.now (lend c.args.widths.now c.args.guards.now) c.args.starts.now) c.table_fault-fault.result (tested (goal.at.returns-then-fault-ne0 c).After-table_fault-fault) c.if-fault-ne0.true
-    ∙ writing_is c.args.anchor c.args.n c.args.labels.now (lend c.args.widths.now c.args.guards.now) c.args.starts.now c.args.text.now
+pub returns-in_err-check_tables : goal.returns-in_err-check_tables
+returns-in_err-check_tables c =
+    let p = err_from_is_err_and c.from_residual.result c.from_residual.ensures.1 in
+    rw (p.1, p.2) (written_err _ _ _ (err_stop _ _ (rw (to_z-of_z c.ranges.anchor) at c.in_err-check_tables.ensures)) ∙ writing_is _ _ _ _ _ _)
 
 pub counted-low-requires : goal.counted-low-requires
-counted-low-requires c =
-    rw (to_z-of_z c.ranges.anchor) (table_passed c.args.anchor c.args.n c.args.labels.now (lend c.args.widths.now c.args.guards.now) c.args.starts.now (number_of (tested (goal.at.counted-low-requires c).After-table_fault-fault) c.if-fault-ne0.false)).in_range
+counted-low-requires c = (table_passed _ _ _ _ _ (clear_none c.in_ok-check_tables.ensures)).in_range
 
 pub order_length-length-requires : goal.order_length-length-requires
-order_length-length-requires c =
-    ready (goal.at.order_length-length-requires c).After-counted-low
+order_length-length-requires c = ready (goal.at.order_length-length-requires c).After-counted-low
 
-pub returns-then-text-length : goal.returns-then-text-length
-returns-then-text-length c =
-    written_short (order_text c.args.anchor c.args.n c.args.labels.now c.args.widths.now c.args.starts.now) c.args.text.now (table_fault c.args.anchor c.args.n c.args.labels.now (lend c.args.widths.now c.args.guards.now) c.args.starts.now) c.table_fault-fault.result (tested (goal.at.returns-then-text-length c).After-table_fault-fault) c.if-fault-ne0.false
-    (omega (arith, c.order_length-length.ensures, ap length (sheet (goal.at.returns-then-text-length c).After-counted-low)))
-    ∙ writing_is c.args.anchor c.args.n c.args.labels.now (lend c.args.widths.now c.args.guards.now) c.args.starts.now c.args.text.now
+pub returns-in_err-refuse_if : goal.returns-in_err-refuse_if
+returns-in_err-refuse_if c =
+    let p = err_from_is_err_and c.from_residual-in_err-refuse_if.result c.from_residual-in_err-refuse_if.ensures.1 in
+    let d = (goal.at.returns-in_err-refuse_if c).After-counted-low in
+    rw (p.1, p.2)
+    (written_err _ _ _ (ok_on _ (tested d) (c.in_err-refuse_if.ensures ∙ room_is _ _ c.order_length-length.ensures)) ∙ writing_is _ _ _ _ _ _ ∙ the_call d)
 
 pub put_order-requires : goal.put_order-requires
 put_order-requires c =
-    ((ready (goal.at.put_order-requires c).After-counted-low), omega (arith, c.order_length-length.ensures, c.if-text-length.false))
+    (ready (goal.at.put_order-requires c).After-counted-low, room_clear _ _ (c.in_ok-refuse_if.ensures ∙ room_is _ _ c.order_length-length.ensures))
 
 pub returns : goal.returns
 returns c =
-    let e = sheet (goal.at.returns c).After-counted-low in
-    written_done (order_text c.args.anchor c.args.n c.args.labels.now c.args.widths.now c.args.starts.now) c.args.text.now (table_fault c.args.anchor c.args.n c.args.labels.now (lend c.args.widths.now c.args.guards.now) c.args.starts.now) c.table_fault-fault.result (tested (goal.at.returns c).After-table_fault-fault) c.if-fault-ne0.false
-    c.order_length-length.result c.put_order.new.text (c.order_length-length.ensures ∙ sym (ap length e)) c.if-text-length.false (c.put_order.ensures.1 ∙ ap (λ (x : List ℕ). sets c.args.text.now 0 x) (sym e))
-    ∙ writing_is c.args.anchor c.args.n c.args.labels.now (lend c.args.widths.now c.args.guards.now) c.args.starts.now c.args.text.now
+    let room = c.in_ok-refuse_if.ensures ∙ room_is _ _ c.order_length-length.ensures in
+    let d = (goal.at.returns c).After-counted-low in
+    written_ok _ _ (ok_on _ (tested d) room) (room_clear _ _ room) _ _ c.put_order.ensures ∙ writing_is _ _ _ _ _ _ ∙ the_call d

@@ -1,6 +1,4 @@
-use Prim.Native.Nat.{◌-◌, ◌≤◌}
-use mathlib.Core.Path.{◌≡◌}
-use lib.ListN.{length, drop}
+use Rattle.std.proofs.Common.{◌≡◌, ◌-◌}
 use Rattle.rules.specs.Sheet.{lines}
 use Rattle.rules.specs.Grid.{order_step}
 use Rattle.sheet_laws.specs.Grid.{lowered}
@@ -8,7 +6,4 @@ use Rattle.order_reader.proofs.order_lines.Given as goal
 
 abbrev pub invariant-loop-k : goal.invariant-loop-k
 invariant-loop-k l =
-    (lines (order_step (lowered l.anchor) l.labels l.widths) 2 (l.n - l.k) l.k l.starts (drop l.i l.text) ≡ lines (order_step (lowered l.anchor) l.labels l.widths) 2 l.n 0 l.initial.starts (drop l.place l.text)) × (l.k ≤ l.n) × (l.i ≤ length l.text) × (length l.starts ≡ length l.initial.starts)
-
-abbrev pub decreases-loop-k : goal.decreases-loop-k
-decreases-loop-k l = l.n - l.k
+    lines (order_step (lowered l.anchor) l.labels l.widths) 2 (l.n - l.k-counter) l.k-counter l.starts l.rest ≡ lines (order_step (lowered l.anchor) l.labels l.widths) 2 l.n 0 l.initial.starts l.initial.rest

@@ -1,38 +1,31 @@
-use Prim.Native.Nat.{ℕ, ◌+◌, ◌-◌}
-use mathlib.Core.Path.{refl, sym, ap, ◌∙◌}
-use mathlib.Core.List.{List}
+use mathlib.Core.Path.{◌≡◌}
 use native.Mathlib.Omega.{arith}
-use native.Mathlib.Nat.{sub-zero}
-use lib.ListN.{length}
-use lib.Seq.{sets}
-use Rattle.rules.specs.Writing.{join_from}
-use Rattle.rules.specs.Grid.{order_line_text}
-use Rattle.sheet_laws.specs.Writes.{join_step, join_end, join_length, piece}
-use Rattle.sheet_laws.specs.Grid.{lowered}
+use Rattle.rules.specs.Grid.{order_line_text, order_text}
+use Rattle.sheet_laws.specs.Grid.{lowered, order_length}
+use Rattle.spelling.specs.Joins.{joins_none, joins_room, joins_more}
 use Rattle.order_writer.proofs.put_lines.Goals as goal
 
 pub loop-k-init : goal.loop-k-init
-loop-k-init c = (rw sub-zero, rw sub-zero, refl, omega arith)
+loop-k-init g c =
+    joins_none g.met.S.Sink.laws (order_line_text (lowered c.args.anchor) c.args.labels.now c.args.widths.now c.args.starts.now) c.put_count_line.new.self
 
-pub put_line-p-requires : goal.put_line-p-requires
-put_line-p-requires c =
-    let h = join_length c.args.n c.loop-k.k (order_line_text (lowered c.args.anchor) c.args.labels.now c.args.widths.now c.args.starts.now) c.loop-k-test.true in
-    (c.requires.0.block c.loop-k.k c.loop-k-test.true, omega (arith, c.loop-k.invariant.1, c.requires.1))
-
-pub overflow_add-k : goal.overflow_add-k
-overflow_add-k c = omega (arith, c.requires.0.few)
+pub put_line-requires : goal.put_line-requires
+put_line-requires g c =
+    let laws = g.met.S.Sink.laws in
+    let line = order_line_text (lowered c.args.anchor) c.args.labels.now c.args.widths.now c.args.starts.now in
+    let whole = order_length (lowered c.args.anchor) c.args.n c.args.labels.now c.args.widths.now c.args.starts.now in (
+      c.requires.0.block c.loop-k.k (omega arith),
+      joins_room laws line c.loop-k.k c.args.n (omega arith) (omega (arith, whole, laws.left c.put_count_line.ensures)) c.loop-k.invariant,
+    )
 
 pub loop-k-preserved : goal.loop-k-preserved
-loop-k-preserved c =
-    let rest = join_from (c.args.n - (c.loop-k.k + 1)) (c.loop-k.k + 1) (order_line_text (lowered c.args.anchor) c.args.labels.now c.args.widths.now c.args.starts.now) in
-    let e = join_step c.args.n c.loop-k.k (order_line_text (lowered c.args.anchor) c.args.labels.now c.args.widths.now c.args.starts.now) c.loop-k-test.true in
-    let w = piece c.loop-k.text c.put_line-p.new.text c.loop-k.p c.put_line-p.result (order_line_text (lowered c.args.anchor) c.args.labels.now c.args.widths.now c.args.starts.now c.loop-k.k) rest c.put_line-p.ensures in
-    (w.0 ∙ sym (ap (λ (v : List ℕ). sets c.loop-k.text c.loop-k.p v) e) ∙ c.loop-k.invariant.0, omega (arith, w.1, ap length e, c.loop-k.invariant.1), c.put_line-p.auto.text ∙ c.loop-k.invariant.2, omega arith)
-
-pub shape_of-text : goal.shape_of-text
-shape_of-text c = c.loop-k.invariant.2
+loop-k-preserved g c =
+    let line = order_line_text (lowered c.args.anchor) c.args.labels.now c.args.widths.now c.args.starts.now in
+    joins_more g.met.S.Sink.laws line c.loop-k.k c.loop-k.invariant c.put_line.ensures
 
 pub returns : goal.returns
-returns c =
-    let e = join_end c.args.n c.loop-k.k (order_line_text (lowered c.args.anchor) c.args.labels.now c.args.widths.now c.args.starts.now) c.loop-k-test.false in
-    (omega (arith, ap length e, c.loop-k.invariant.1), sym (ap (λ (v : List ℕ). sets c.loop-k.text c.loop-k.p v) e) ∙ c.loop-k.invariant.0)
+unfolding order_text
+returns g c =
+    let e : c.args.n ≡ c.loop-k.k = omega arith in
+    let lines = rw (← e) at c.loop-k.invariant in
+    g.met.S.Sink.laws.both c.put_count_line.ensures lines

@@ -1,7 +1,9 @@
-use Rattle.phrases.proofs.Phrases.{clash_wrote}
-use native.Mathlib.Omega.{arith}
+use mathlib.Core.List.{append_assoc}
+use Rattle.rules.specs.Asking.{clash_text}
 use Rattle.phrases.proofs.put_clash.Goals as goal
 
-pub returns : goal.returns
-returns c =
-    record { wrote = clash_wrote c.args.text.now c.put_named-p.new.text c.put_named-q.new.text c.put_slots-e.new.text c.put_word.new.text 0 c.put_named-p.result c.put_named-q.result c.put_slots-e.result c.put_word.result c.args.labels.now c.args.cell c.args.short c.put_named-p.ensures.wrote c.put_named-q.ensures.wrote c.put_slots-e.ensures.wrote c.put_word.ensures; upper_bound = omega (arith, c.put_named-p.ensures.upper_bound, c.put_named-q.ensures.upper_bound, c.put_slots-e.ensures.upper_bound, c.put_word.ensures.0) }
+pub returns-clause-wrote : goal.returns-clause-wrote
+unfolding clash_text
+returns-clause-wrote g c =
+    let laws = g.met.S.Sink.laws in
+    rw append_assoc at (laws.both c.put_named.ensures.wrote (rw append_assoc at (laws.both c.put_named-2.ensures.wrote (laws.both c.put_slots.ensures.wrote c.put_word.ensures))))

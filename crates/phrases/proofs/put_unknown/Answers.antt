@@ -1,7 +1,8 @@
-use Rattle.phrases.proofs.Phrases.{unknown_wrote}
-use native.Mathlib.Omega.{arith}
+use Rattle.rules.specs.Asking.{unknown_text}
 use Rattle.phrases.proofs.put_unknown.Goals as goal
 
-pub returns : goal.returns
-returns c =
-    record { wrote = unknown_wrote c.args.text.now c.put_word-p.new.text c.put_word-q.new.text c.put_word.new.text c.put_word.new.text 0 c.put_word-p.result c.put_word-q.result c.put_word.result c.put_word.result c.args.name.now c.put_word-p.ensures c.put_word-q.ensures c.put_word.ensures; upper_bound = omega (arith, c.put_word-p.ensures.0, c.put_word-q.ensures.0, c.put_word.ensures.0, c.requires.0) }
+pub returns-clause-wrote : goal.returns-clause-wrote
+unfolding unknown_text
+returns-clause-wrote g c =
+    let laws = g.met.S.Sink.laws in
+    laws.both c.put_word.ensures (laws.both c.put_word-2.ensures c.put_word-3.ensures)

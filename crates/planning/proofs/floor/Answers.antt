@@ -1,12 +1,25 @@
-use Rattle.rules.specs.Tables.{lend}
-use Rattle.planning.proofs.Outcomes.{floor_refused, floorable, floor_done}
+use Rattle.std.proofs.Common.{sym}
+use Rattle.std.proofs.lemmas.Result.{err_from_is_err_and}
+use Rattle.rules.specs.Numbers.{floor_fault}
+use Rattle.rules.specs.Calls.{flooring}
+use Rattle.table_laws.specs.Results.{err_stop, unless_err}
+use Rattle.planning.proofs.Outcomes.{floor_refused, floor_ready, floor_done}
 use Rattle.planning.proofs.floor.Goals as goal
 
-pub returns-then-f-ne0 : goal.returns-then-f-ne0
-returns-then-f-ne0 c = floor_refused c.args.n (lend c.args.widths.now c.args.guards.now) c.args.list.now _ c.floor_fault-f.ensures c.if-f-ne0.true
+pub returns-in_err-net : goal.returns-in_err-net
+unfolding flooring floor_fault
+returns-in_err-net c =
+    let p = err_from_is_err_and c.from_residual.result c.from_residual.ensures.1 in
+    rw (p.1, p.2) (sym (unless_err _ _ _ (err_stop _ _ c.in_err-net.ensures.number)))
 
-pub floor_of-floor-requires : goal.floor_of-floor-requires
-floor_of-floor-requires c = (c.args.n, floorable c.args.n (lend c.args.widths.now c.args.guards.now) c.args.list.now _ c.floor_fault-f.ensures c.if-f-ne0.false)
+pub returns-in_err-check_list : goal.returns-in_err-check_list
+returns-in_err-check_list c =
+    let p = err_from_is_err_and c.from_residual-in_err-check_list.result c.from_residual-in_err-check_list.ensures.1 in
+    rw (p.1, p.2) (floor_refused _ _ _ c.in_ok-net.ensures.number _ _ c.in_ok-net.ensures.network _ c.in_err-check_list.ensures)
+
+pub floor_of-requires : goal.floor_of-requires
+floor_of-requires c = floor_ready _ _ _ c.in_ok-net.ensures.number _ _ c.in_ok-net.ensures.network c.in_ok-check_list.ensures
 
 pub returns : goal.returns
-returns c = floor_done c.args.n (lend c.args.widths.now c.args.guards.now) c.args.list.now _ c.floor_fault-f.ensures c.if-f-ne0.false _ c.floor_of-floor.ensures
+returns c =
+    floor_done _ _ _ c.in_ok-net.ensures.number _ _ c.in_ok-net.ensures.network c.in_ok-check_list.ensures _ c.floor_of.ensures

@@ -1,33 +1,33 @@
-use mathlib.Core.Path.{refl, ◌∙◌}
-use Prim.Native.Nat.{◌≤◌}
-use Rattle.rules.specs.Tables.{lend}
-use Rattle.plan_laws.specs.Answers.{Packable}
-use Rattle.planning.proofs.Outcomes.{packed_over_used, packable_used, improved_packable, improved_done, improve_refused, improve_clear, improve_done}
+use Rattle.std.proofs.Common.{refl, sym}
+use Rattle.std.proofs.lemmas.Result.{err_from_is_err_and}
+use Rattle.rules.specs.Numbers.{improve_fault}
+use Rattle.rules.specs.Calls.{improving, refused_planned}
+use Rattle.table_laws.specs.Results.{err_stop, ok_on, unless_err}
+use Rattle.planning.proofs.Outcomes.{improve_ready, improve_packable, improve_done}
 use Rattle.planning.proofs.improve.Goals as goal
-use Rattle.planning.proofs.improve.Goals.{Else-f-ne0}
 
--- what the tests have accepted
-clear : (c : Else-f-ne0) → Packable c.args.n (lend c.args.widths.now c.args.guards.now) c.args.order.now c.args.starts.now × (c.args.rounds ≤ 10000)
-clear c = improve_clear c.args.n (lend c.args.widths.now c.args.guards.now) c.args.order.now c.args.starts.now c.args.seed c.args.rounds _ _ c.then_rounds-f.ensures (c.pack_fault-packing.ensures c.args.starts.now refl) c.if-f-ne0.false
+pub returns-in_err-net : goal.returns-in_err-net
+unfolding improving improve_fault refused_planned
+returns-in_err-net c =
+    let p = err_from_is_err_and c.from_residual.result c.from_residual.ensures.1 in
+    rw (p.1, p.2) (sym (unless_err _ _ _ (err_stop _ _ (c.in_err-net.ensures.number _ refl))))
 
-pub returns-then-f-ne0 : goal.returns-then-f-ne0
-returns-then-f-ne0 c =
-    improve_refused c.args.n (lend c.args.widths.now c.args.guards.now) c.args.order.now c.args.starts.now c.args.seed c.args.rounds _ _ c.then_rounds-f.ensures (c.pack_fault-packing.ensures c.args.starts.now refl) c.if-f-ne0.true
+pub returns-in_err-check_rounds : goal.returns-in_err-check_rounds
+unfolding improving improve_fault refused_planned
+returns-in_err-check_rounds c =
+    let p = err_from_is_err_and c.from_residual-in_err-check_rounds.result c.from_residual-in_err-check_rounds.ensures.1 in
+    rw (p.1, p.2) (sym (unless_err _ _ _ (ok_on _ (c.in_ok-net.ensures.number _ refl) c.in_err-check_rounds.ensures)))
 
 pub improve_order-run-requires : goal.improve_order-run-requires
 improve_order-run-requires c =
-    clear (goal.at.improve_order-run-requires c).Else-f-ne0
+    improve_ready _ _ _ _ c.args.seed _ (c.in_ok-net.ensures.number _ refl) c.in_ok-check_rounds.ensures _ _ c.in_ok-net.ensures.network
 
 pub packed_plan-requires : goal.packed_plan-requires
 packed_plan-requires c =
-    let p = (clear (goal.at.packed_plan-requires c).Else-f-ne0).0 in
-    packable_used c.args.n (lend c.args.widths.now c.args.guards.now) _ c.args.starts.now _ (improved_packable c.args.n (lend c.args.widths.now c.args.guards.now) c.args.order.now c.args.starts.now c.args.seed c.args.rounds p c.improve_order-run.result _ (c.improve_order-run.ensures.by_index c.args.starts.now p.starts_size)) c.improve_order-run.ensures.kept_from
+    improve_packable _ _ _ _ c.args.seed _ (c.in_ok-net.ensures.number _ refl) c.in_ok-check_rounds.ensures _ _ c.in_ok-net.ensures.network
+    c.improve_order-run.result _ _ c.improve_order-run.ensures.by_index c.improve_order-run.ensures.kept_from
 
 pub returns : goal.returns
 returns c =
-    let p = (clear (goal.at.returns c).Else-f-ne0).0 in
-    let e = c.improve_order-run.ensures.by_index c.args.starts.now p.starts_size in
-    improve_done c.args.n (lend c.args.widths.now c.args.guards.now) c.args.order.now c.args.starts.now c.args.seed c.args.rounds _ _ c.then_rounds-f.ensures (c.pack_fault-packing.ensures c.args.starts.now refl) c.if-f-ne0.false
-    _ _ (c.packed_plan.ensures
-    ∙ packed_over_used c.args.n (lend c.args.widths.now c.args.guards.now) _ c.args.starts.now _ _ (improved_packable c.args.n (lend c.args.widths.now c.args.guards.now) c.args.order.now c.args.starts.now c.args.seed c.args.rounds p c.improve_order-run.result _ e) c.improve_order-run.ensures.kept_from
-    ∙ improved_done c.args.n (lend c.args.widths.now c.args.guards.now) c.args.order.now c.args.starts.now c.args.seed c.args.rounds c.improve_order-run.result _ e)
+    improve_done _ _ _ _ c.args.seed _ (c.in_ok-net.ensures.number _ refl) c.in_ok-check_rounds.ensures _ _ c.in_ok-net.ensures.network
+    c.improve_order-run.result _ _ c.improve_order-run.ensures.by_index c.improve_order-run.ensures.kept_from _ c.packed_plan.ensures

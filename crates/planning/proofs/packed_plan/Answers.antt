@@ -4,4 +4,4 @@ use Rattle.planning.proofs.packed_plan.Goals as goal
 
 pub returns : goal.returns
 unfolding done_planned
-returns c = rw (c.pack_into-h.ensures.value, c.pack_into-h.ensures.starts_after) refl
+returns c = rw (c.pack_into-highest.ensures.value, c.pack_into-highest.ensures.starts_after) refl

@@ -1,29 +1,30 @@
-use native.Mathlib.Omega.{arith}
-use mathlib.Core.Path.{◌≡◌, refl, ap, ◌∙◌}
+use Rattle.std.proofs.Common.{◌≡◌, refl, sym, ap, ◌∙◌}
 use Rattle.rules.specs.Tables.{lend}
-use Rattle.rules.specs.Numbers.{size_fault, lent_fault}
+use Rattle.std.proofs.lemmas.Result.{err_from_is_err_and}
+use Rattle.rules.specs.Numbers.{size_fault, lent_fault, two_sides_fault}
+use Rattle.rules.specs.Calls.{siding}
+use Rattle.rules.specs.Told.{told}
 use Rattle.table_laws.specs.Chains.{size_is}
-use Rattle.planning.proofs.Outcomes.{two_refused, two_clear, two_done, two_none}
+use Rattle.table_laws.specs.Results.{err_stop, unless_err}
+use Rattle.planning.proofs.Outcomes.{sides_room, sides_done}
 use Rattle.planning.proofs.two_sides.Goals as goal
-use Rattle.planning.proofs.two_sides.Goals.{After-lent_fault-f}
+use Rattle.planning.proofs.two_sides.Goals.{After-check_size-size}
 
--- the tests before 9
-tested : (c : After-lent_fault-f) → c.lent_fault-f.result ≡ lent_fault c.args.n (lend c.args.widths.now c.args.guards.now) (size_fault c.args.order.now 128)
-tested c = c.lent_fault-f.ensures ∙ ap (lent_fault c.args.n (lend c.args.widths.now c.args.guards.now)) (size_is c.args.order.now _ 128 c.size_fault-sizes.ensures refl)
+-- the test of the order's size
+sized : (c : After-check_size-size) → lent_fault c.args.n (lend c.args.widths.now c.args.guards.now) (told c.check_size-size.result) ≡ lent_fault c.args.n (lend c.args.widths.now c.args.guards.now) (size_fault c.args.order.now 128)
+sized c = ap (lent_fault _ _) (size_is c.args.order.now _ 128 c.check_size-size.ensures refl)
 
-pub returns-then-f-ne0 : goal.returns-then-f-ne0
-returns-then-f-ne0 c =
-    two_refused c.args.n (lend c.args.widths.now c.args.guards.now) c.args.order.now _ (tested (goal.at.returns-then-f-ne0 c).After-lent_fault-f) c.if-f-ne0.true
+pub returns-in_err-net : goal.returns-in_err-net
+unfolding siding two_sides_fault
+returns-in_err-net c =
+    let p = err_from_is_err_and c.from_residual.result c.from_residual.ensures.1 in
+    rw (p.1, p.2) (sym (unless_err _ _ _ (err_stop _ _ (c.in_err-net.ensures.number ∙ sized (goal.at.returns-in_err-net c).After-check_size-size))))
 
-pub sided_order-split-requires : goal.sided_order-split-requires
-sided_order-split-requires c =
-    let p = two_clear c.args.n (lend c.args.widths.now c.args.guards.now) c.args.order.now _ (tested (goal.at.sided_order-split-requires c).After-lent_fault-f) c.if-f-ne0.false in
-    (p.network.few, (p.network.guards_size, (record { own = p.network.diagonal; other = p.network.mirrored }, omega (arith, p.network.few, p.order_size))))
-
-pub returns-then-split : goal.returns-then-split
-returns-then-split c =
-    two_done c.args.n (lend c.args.widths.now c.args.guards.now) c.args.order.now _ (tested (goal.at.returns-then-split c).After-lent_fault-f) c.if-f-ne0.false _ _ (c.sided_order-split.ensures (lend c.args.widths.now c.args.guards.now) refl) c.if-split.true
+pub sided_order-requires : goal.sided_order-requires
+sided_order-requires c =
+    rw c.in_ok-net.ensures.network.0 (sides_room _ _ _ (c.in_ok-net.ensures.number ∙ sized (goal.at.sided_order-requires c).After-check_size-size))
 
 pub returns : goal.returns
 returns c =
-    two_none c.args.n (lend c.args.widths.now c.args.guards.now) c.args.order.now _ (tested (goal.at.returns c).After-lent_fault-f) c.if-f-ne0.false _ _ (c.sided_order-split.ensures (lend c.args.widths.now c.args.guards.now) refl) c.if-split.false
+    rw c.ok_or.ensures.value
+    (sides_done _ _ _ (c.in_ok-net.ensures.number ∙ sized (goal.at.returns c).After-check_size-size) _ _ c.in_ok-net.ensures.network _ _ c.sided_order.ensures _ c.whole.ensures)

@@ -1,31 +1,30 @@
-use Rattle.reason.proofs.Told.{some_paths, few_paths, last_path, told}
-use Rattle.table_laws.specs.Tables.{blank}
-use Rattle.rules.specs.Tables.{lend}
-use lib.ListN.{length-replicate}
-use native.Mathlib.Omega.{arith}
-use Prim.Native.Nat.{ℕ, ◌-◌}
+use Rattle.std.proofs.Common.{◌≡◌, ◌++◌, length, drop, ◌∙◌, arith}
+use Rattle.network.specs.Lent.{lent}
+use Rattle.rules.specs.Tables.{at}
+use Rattle.rules.specs.Plan.{net_of}
+use Rattle.rules.specs.Reason.{chain}
+use Rattle.reason.proofs.Told.{some_paths, last_path, chain_told}
 use Rattle.reason.proofs.explain.Goals as goal
+use Rattle.reason.proofs.explain.Goals.{After-write_chain-length}
 
-pub file_paths-requires : goal.file_paths-requires
-file_paths-requires c =
-    (c.requires.network.few, (blank 128 128, (length-replicate {A = ℕ} 128 0, (length-replicate {A = ℕ} 128 0, (c.requires.network.widths_size, (λ k l. (c.requires.network.width k l).1, c.requires.legal))))))
+-- how many paths are written, and what then stands in the table
+length_is : (c : After-write_chain-length) → let p = c.args.plan.now in c.write_chain-length.result ≡ length (chain (net_of (lent p.net)) (at p.starts.now) p.net.n c.args.path)
+length_is c = rw c.of-files.ensures at c.write_chain-length.ensures.value
 
-pub overflow_sub-last : goal.overflow_sub-last
-overflow_sub-last c =
-    omega (arith, some_paths c.args.n (lend c.args.widths.now c.args.guards.now) c.args.starts.now c.args.path c.args.chain.now c.requires c.write_chain-m.result c.write_chain-m.new.table c.write_chain-m.ensures.value c.write_chain-m.ensures.table_after)
+table_is : (c : After-write_chain-length) → let p = c.args.plan.now in let ch = chain (net_of (lent p.net)) (at p.starts.now) p.net.n c.args.path in c.write_chain-length.new.table ≡ ch ++ drop (length ch) c.args.chain.now
+table_is c = rw c.of-files.ensures at c.write_chain-length.ensures.table_after
 
-pub bounds-chain-m : goal.bounds-chain-m
-bounds-chain-m c =
-    omega (arith, some_paths c.args.n (lend c.args.widths.now c.args.guards.now) c.args.starts.now c.args.path c.args.chain.now c.requires c.write_chain-m.result c.write_chain-m.new.table c.write_chain-m.ensures.value c.write_chain-m.ensures.table_after, few_paths c.args.n (lend c.args.widths.now c.args.guards.now) c.args.starts.now c.args.path c.args.chain.now c.requires c.write_chain-m.result c.write_chain-m.new.table c.write_chain-m.ensures.value c.write_chain-m.ensures.table_after, c.write_chain-m.auto, c.requires.table_size)
+pub overflow_sub-length : goal.overflow_sub-length
+overflow_sub-length c =
+    let w = (goal.at.overflow_sub-length c).After-write_chain-length in
+    some_paths _ _ _ _ _ c.requires.0 _ _ (length_is w) (table_is w)
 
-pub overflow_cast-last : goal.overflow_cast-last
-overflow_cast-last c =
-    omega (arith, c.slice_known-3-1.given (c.write_chain-m.result - 1))
-
-pub down_of-d-requires : goal.down_of-d-requires
-down_of-d-requires c =
-    (last_path c.args.n (lend c.args.widths.now c.args.guards.now) c.args.starts.now c.args.path c.args.chain.now c.requires c.write_chain-m.result c.write_chain-m.new.table c.write_chain-m.ensures.value c.write_chain-m.ensures.table_after, (c.requires.network, c.requires.legal))
+pub down_of-requires : goal.down_of-requires
+down_of-requires c =
+    let w = (goal.at.down_of-requires c).After-write_chain-length in
+    rw c.of-files.ensures (omega (arith, last_path _ _ _ _ _ c.requires.0 _ _ (length_is w) (table_is w)))
 
 pub returns : goal.returns
 returns c =
-    told c.args.n (lend c.args.widths.now c.args.guards.now) c.args.starts.now c.args.path c.args.chain.now c.requires c.write_chain-m.result c.write_chain-m.new.table c.write_chain-m.ensures.value c.write_chain-m.ensures.table_after c.down_of-d.result c.down_of-d.ensures
+    let w = (goal.at.returns c).After-write_chain-length in
+    chain_told _ _ _ _ _ c.requires.0 _ _ (length_is w) (table_is w) _ (c.from-down.ensures ∙ rw (c.of-files.ensures, c.from-last.ensures) at c.down_of.ensures)

@@ -1,43 +1,26 @@
-use Rattle.plan_laws.specs.Reason.{Writing, writing_first, writing_stop, writing_more, writing_full, next_ends, next_goes}
+use Rattle.std.proofs.Common.{◌+◌, set, subst, arith}
+use Rattle.network.specs.Lent.{lent}
+use Rattle.rules.specs.Tables.{at}
 use Rattle.rules.specs.Plan.{net_of}
-use Rattle.rules.specs.Tables.{at, lend}
-use lib.ListN.{set, length-set}
-use native.Mathlib.Omega.{arith}
-use mathlib.Core.Path.{sym, subst}
-use Prim.Native.Nat.{◌+◌}
+use Rattle.plan_laws.specs.Reason.{Writing, writing_first, writing_stop, writing_more, writing_full}
+use Rattle.reason.proofs.Told.{chain_ends, chain_goes}
 use Rattle.reason.proofs.write_chain.Goals as goal
 
 pub loop-m-init : goal.loop-m-init
-loop-m-init c =
-    writing_first (net_of (lend c.args.widths.now c.args.guards.now)) (at c.args.starts.now) c.args.n c.args.path c.args.table.now c.requires.0
+loop-m-init c = writing_first _ _ _ _ _ c.requires.0
 
-pub bounds-table-m : goal.bounds-table-m
-bounds-table-m c =
-    omega (arith, c.loop-m.invariant.size, c.requires.1.1.1.1, c.requires.1.0.few)
-
-pub next_of-j-requires : goal.next_of-j-requires
-next_of-j-requires c =
-    (c.loop-m.invariant.inside, (c.requires.1.0, (c.requires.1.1.0, c.requires.1.1.1.0)))
-
-pub shape_of-table-then-n-j : goal.shape_of-table-then-n-j
-shape_of-table-then-n-j c =
-    omega (arith, c.loop-m.invariant.size, length-set c.loop-m.table c.loop-m.m c.loop-m.k)
-
-pub returns-then-n-j : goal.returns-then-n-j
-returns-then-n-j c =
-    let w = writing_stop (net_of (lend c.args.widths.now c.args.guards.now)) (at c.args.starts.now) c.args.n c.args.path c.args.table.now c.loop-m.m c.loop-m.k c.loop-m.table c.loop-m.invariant (omega (arith, c.requires.1.1.1.1, c.requires.1.0.few)) (omega arith) (next_ends (net_of (lend c.args.widths.now c.args.guards.now)) (at c.args.starts.now) c.args.n c.loop-m.k c.next_of-j.result c.next_of-j.ensures c.if-n-j.true) in
+pub returns-in-None : goal.returns-in-None
+returns-in-None c =
+    let w = writing_stop _ _ _ _ _ _ _ _ c.loop-m.invariant (omega (arith, c.requires.1, c.args.files.now.plan.now.net.within.few)) c.loop-m-test.true (chain_ends _ _ _ _ c.in-None.ensures) in
     record { value = w.0; table_after = w.1 }
 
 pub loop-m-preserved : goal.loop-m-preserved
 loop-m-preserved c =
-    let g = next_goes (net_of (lend c.args.widths.now c.args.guards.now)) (at c.args.starts.now) c.args.n c.loop-m.k c.next_of-j.result c.next_of-j.ensures c.if-n-j.false in
-    subst (λ z. Writing (net_of (lend c.args.widths.now c.args.guards.now)) (at c.args.starts.now) c.args.n c.args.path c.args.table.now (c.loop-m.m + 1) z (set c.loop-m.table c.loop-m.m c.loop-m.k)) (sym g.1) (writing_more (net_of (lend c.args.widths.now c.args.guards.now)) (at c.args.starts.now) c.args.n c.args.path c.args.table.now c.loop-m.m c.loop-m.k c.loop-m.table c.loop-m.invariant (omega arith) g.0)
-
-pub shape_of-table : goal.shape_of-table
-shape_of-table c =
-    omega (arith, c.loop-m.invariant.size)
+    let p = c.args.files.now.plan.now in
+    let g = chain_goes _ _ _ _ c.in-Some.below c.in-Some.ensures in
+    subst (λ k. Writing (net_of (lent p.net)) (at p.starts.now) p.net.n c.args.path c.args.table.now (c.loop-m.m + 1) k (set c.loop-m.table c.loop-m.m c.loop-m.k)) g.1 (writing_more _ _ _ _ _ _ _ _ c.loop-m.invariant c.loop-m-test.true g.0)
 
 pub returns : goal.returns
 returns c =
-    let w = writing_full (net_of (lend c.args.widths.now c.args.guards.now)) (at c.args.starts.now) c.args.n c.args.path c.args.table.now c.loop-m.m c.loop-m.k c.loop-m.table c.loop-m.invariant (omega (arith, c.requires.1.1.1.1, c.requires.1.0.few)) (omega arith) in
-    record { value = w.0; table_after = w.1 }
+    let w = writing_full _ _ _ _ _ _ _ _ c.loop-m.invariant (omega (arith, c.requires.1, c.args.files.now.plan.now.net.within.few)) c.loop-m-test.false in
+    record { value = omega (arith, w.0); table_after = w.1 }

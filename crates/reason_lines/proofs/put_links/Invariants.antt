@@ -1,7 +1,4 @@
-use Prim.Native.Nat.{◌+◌, ◌-◌, ◌*◌, ◌≤◌}
-use mathlib.Core.Path.{◌≡◌}
-use lib.ListN.{length}
-use lib.Seq.{sets}
+use Prim.Native.Nat.{◌+◌, ◌*◌, ◌≤◌}
 use Rattle.rules.specs.Tables.{at, lend}
 use Rattle.rules.specs.Plan.{net_of}
 use Rattle.rules.specs.Writing.{join_from}
@@ -9,8 +6,8 @@ use Rattle.rules.specs.Asking.{link_text}
 use Rattle.reason_lines.proofs.put_links.Given as goal
 
 abbrev pub invariant-loop-i : goal.invariant-loop-i
-invariant-loop-i l =
-    (sets l.text l.p (join_from (l.last - l.i) l.i (λ m. link_text l.labels (net_of (lend l.widths l.guards)) (at l.starts) (at l.chain m) (at l.chain (m + 1)))) ≡ sets l.initial.text l.place (join_from l.last 0 (λ m. link_text l.labels (net_of (lend l.widths l.guards)) (at l.starts) (at l.chain m) (at l.chain (m + 1))))) × (l.p + length (join_from (l.last - l.i) l.i (λ m. link_text l.labels (net_of (lend l.widths l.guards)) (at l.starts) (at l.chain m) (at l.chain (m + 1)))) ≡ l.place + length (join_from l.last 0 (λ m. link_text l.labels (net_of (lend l.widths l.guards)) (at l.starts) (at l.chain m) (at l.chain (m + 1))))) × (length l.text ≡ length l.initial.text) × (l.i ≤ l.last) × (l.p ≤ l.place + 68 * l.i)
-
-abbrev pub decreases-loop-i : goal.decreases-loop-i
-decreases-loop-i l = l.last - l.i
+invariant-loop-i g l =
+    record {
+      wrote : g.S.Sink.takes l.initial.sink (join_from l.i 0 (λ m. link_text l.labels (net_of (lend l.widths l.guards)) (at l.starts) (at l.chain m) (at l.chain (m + 1)))) l.sink;
+      upper_bound : g.S.Sink.room l.initial.sink ≤ g.S.Sink.room l.sink + 68 * l.i;
+    }

@@ -1,18 +1,19 @@
-use mathlib.Core.Path.{◌∙◌}
-use Rattle.rules.specs.Tables.{lend}
-use Rattle.table_laws.specs.Chains.{number_of}
+use Rattle.std.proofs.Common.{sym, ◌∙◌}
+use Rattle.std.proofs.lemmas.Result.{err_from_is_err_and}
+use Rattle.rules.specs.Calls.{reading}
+use Rattle.table_laws.specs.Results.{clear_none, unless_err, unless_ok}
 use Rattle.sheet_laws.specs.Sizes.{all_clear}
-use Rattle.sheet.proofs.Answered.{read_refused, read_on}
 use Rattle.sheet.proofs.read.Goals as goal
 
-pub returns-then-sizes-ne0 : goal.returns-then-sizes-ne0
-returns-then-sizes-ne0 c =
-    read_refused c.args.text.now c.args.labels.now (lend c.args.widths.now c.args.guards.now) c.args.starts.now c.sheet_sizes-sizes.result c.sheet_sizes-sizes.ensures c.if-sizes-ne0.true
+pub returns-in_err-check_sheet_sizes : goal.returns-in_err-check_sheet_sizes
+unfolding reading
+returns-in_err-check_sheet_sizes c =
+    let p = err_from_is_err_and c.from_residual.result c.from_residual.ensures.1 in
+    rw (p.1, p.2) (sym (unless_err _ _ _ c.in_err-check_sheet_sizes.ensures))
 
 pub read_sized-requires : goal.read_sized-requires
-read_sized-requires c =
-    all_clear c.args.labels.now c.args.widths.now c.args.guards.now c.args.starts.now (number_of c.sheet_sizes-sizes.ensures c.if-sizes-ne0.false)
+read_sized-requires c = all_clear _ _ _ _ (clear_none c.in_ok-check_sheet_sizes.ensures)
 
 pub returns : goal.returns
-returns c =
-    c.read_sized.ensures ∙ read_on c.args.text.now c.args.labels.now (lend c.args.widths.now c.args.guards.now) c.args.starts.now c.sheet_sizes-sizes.result c.sheet_sizes-sizes.ensures c.if-sizes-ne0.false
+unfolding reading
+returns c = c.read_sized.ensures ∙ sym (unless_ok _ _ c.in_ok-check_sheet_sizes.ensures)

@@ -1,37 +1,34 @@
-use Prim.Native.Nat.{◌≤◌}
-use mathlib.Core.Path.{◌∙◌}
-use native.Mathlib.Omega.{arith}
-use Rattle.rules.specs.Tables.{lend}
-use Rattle.rules.specs.Writing.{sheet_text}
+use Rattle.std.proofs.Common.{◌≤◌, sym, ◌∙◌, arith}
+use Rattle.std.proofs.lemmas.Result.{err_from_is_err_and}
 use Rattle.sheet_laws.specs.Sizes.{Sized}
-use Rattle.sheet_laws.specs.Outcomes.{written_refused, written_short, written_done}
-use Rattle.sheet_tables.specs.Tests.{table_fault}
+use Rattle.sheet_laws.specs.Outcomes.{room_is, room_clear, written_err, written_ok}
+use Rattle.table_laws.specs.Results.{err_stop, ok_on}
 use Rattle.sheet.proofs.Written.{writing_is, table_clear}
 use Rattle.sheet.proofs.write.Goals as goal
-use Rattle.sheet.proofs.write.Goals.{Else-fault-ne0}
+use Rattle.sheet.proofs.write.Goals.{In_ok-check_tables}
 
-fit : (c : Else-fault-ne0) → (c.args.n ≤ 128) × Sized c.args.labels.now c.args.widths.now c.args.guards.now c.args.starts.now
-fit c = table_clear c.args.n c.args.labels.now c.args.widths.now c.args.guards.now c.args.starts.now c.table_fault-fault.result c.table_fault-fault.ensures c.if-fault-ne0.false
+fit : (c : In_ok-check_tables) → (c.args.n ≤ 128) × Sized c.args.labels.now c.args.widths.now c.args.guards.now c.args.starts.now
+fit c = table_clear _ _ _ _ _ c.in_ok-check_tables.ensures
 
-pub returns-then-fault-ne0 : goal.returns-then-fault-ne0
-returns-then-fault-ne0 c =
-    written_refused (sheet_text c.args.n c.args.labels.now (lend c.args.widths.now c.args.guards.now) c.args.starts.now) c.args.text.now (table_fault c.args.n c.args.labels.now (lend c.args.widths.now c.args.guards.now) c.args.starts.now) c.table_fault-fault.result c.table_fault-fault.ensures c.if-fault-ne0.true
-    ∙ writing_is c.args.n c.args.labels.now (lend c.args.widths.now c.args.guards.now) c.args.starts.now c.args.text.now
+pub returns-in_err-check_tables : goal.returns-in_err-check_tables
+returns-in_err-check_tables c =
+    let p = err_from_is_err_and c.from_residual.result c.from_residual.ensures.1 in
+    rw (p.1, p.2) (written_err _ _ _ (err_stop _ _ c.in_err-check_tables.ensures) ∙ writing_is _ _ _ _ _)
 
 pub sheet_length-length-requires : goal.sheet_length-length-requires
-sheet_length-length-requires c =
-    fit (goal.at.sheet_length-length-requires c).Else-fault-ne0
+sheet_length-length-requires c = fit (goal.at.sheet_length-length-requires c).In_ok-check_tables
 
-pub returns-then-text-length : goal.returns-then-text-length
-returns-then-text-length c =
-    written_short (sheet_text c.args.n c.args.labels.now (lend c.args.widths.now c.args.guards.now) c.args.starts.now) c.args.text.now (table_fault c.args.n c.args.labels.now (lend c.args.widths.now c.args.guards.now) c.args.starts.now) c.table_fault-fault.result c.table_fault-fault.ensures c.if-fault-ne0.false (omega (arith, c.sheet_length-length.ensures))
-    ∙ writing_is c.args.n c.args.labels.now (lend c.args.widths.now c.args.guards.now) c.args.starts.now c.args.text.now
+pub returns-in_err-refuse_if : goal.returns-in_err-refuse_if
+returns-in_err-refuse_if c =
+    let p = err_from_is_err_and c.from_residual-in_err-refuse_if.result c.from_residual-in_err-refuse_if.ensures.1 in
+    rw (p.1, p.2) (written_err _ _ _ (ok_on _ c.in_ok-check_tables.ensures (c.in_err-refuse_if.ensures ∙ room_is _ _ c.sheet_length-length.ensures)) ∙ writing_is _ _ _ _ _)
 
 pub put_sheet-requires : goal.put_sheet-requires
 put_sheet-requires c =
-    let h = fit (goal.at.put_sheet-requires c).Else-fault-ne0 in (h.0, h.1, omega (arith, c.sheet_length-length.ensures, c.if-text-length.false))
+    let f = fit (goal.at.put_sheet-requires c).In_ok-check_tables in
+    (f.0, f.1, room_clear _ _ (c.in_ok-refuse_if.ensures ∙ room_is _ _ c.sheet_length-length.ensures))
 
 pub returns : goal.returns
 returns c =
-    written_done (sheet_text c.args.n c.args.labels.now (lend c.args.widths.now c.args.guards.now) c.args.starts.now) c.args.text.now (table_fault c.args.n c.args.labels.now (lend c.args.widths.now c.args.guards.now) c.args.starts.now) c.table_fault-fault.result c.table_fault-fault.ensures c.if-fault-ne0.false c.sheet_length-length.result c.put_sheet.new.text c.sheet_length-length.ensures c.if-text-length.false c.put_sheet.ensures.1
-    ∙ writing_is c.args.n c.args.labels.now (lend c.args.widths.now c.args.guards.now) c.args.starts.now c.args.text.now
+    let room = c.in_ok-refuse_if.ensures ∙ room_is _ _ c.sheet_length-length.ensures in
+    written_ok _ _ (ok_on _ c.in_ok-check_tables.ensures room) (room_clear _ _ room) _ _ c.put_sheet.ensures ∙ writing_is _ _ _ _ _

@@ -1,18 +1,18 @@
-use native.Mathlib.Omega.{arith}
-use mathlib.Core.Path.{sym, ap, ◌∙◌}
-use mathlib.Core.Bool.{not}
-use borrow.Author.Count.{below_none, below_more}
-use Rattle.table_laws.specs.Scans.{found_at, found_none}
+use Rattle.std.proofs.Common.{ap, ◌∙◌, rules, tests, refl}
+use Rattle.std.specs.Prelude.{not}
+use Rattle.network.specs.Lent.{lent}
+use Rattle.rules.specs.Tables.{at}
+use Rattle.rules.specs.Plan.{net_of}
+use Rattle.rules.specs.Scan.{found, found_pair}
+use Rattle.rules.specs.Sides.{has_sides, same_mark}
+use Rattle.table_laws.specs.Searches.{any_found}
+use Rattle.plan_laws.specs.Alike.{alike, rows_alike}
 use Rattle.sides.proofs.are_sides.Goals as goal
 
-pub loop-i-init : goal.loop-i-init
-loop-i-init c = (omega arith, below_none _)
-
-pub returns-then-row_alike : goal.returns-then-row_alike
-returns-then-row_alike c = sym (ap not (found_at _ _ c.loop-i.i c.loop-i-test.true (sym c.row_alike.ensures ∙ c.if-row_alike.true)))
-
-pub loop-i-preserved : goal.loop-i-preserved
-loop-i-preserved c = (omega arith, below_more _ _ c.loop-i.invariant.1 (sym c.row_alike.ensures ∙ c.if-row_alike.false))
-
 pub returns : goal.returns
-returns c = sym (ap not (found_none _ _ (λ i l. c.loop-i.invariant.1 i (omega arith))))
+unfolding has_sides
+returns c =
+    let net = c.args.net.now in
+    ap not (any_found _ _ _ _ (λ i. found (alike net.guards.now c.args.mark.now i) 128) c.any.ensures.ran (λ x b q h. (search (rules, tests), search (rules, tests)))
+    ∙ rows_alike net.n net.within.few net.guards.now c.args.mark.now (record { own = net.within.diagonal; other = net.within.mirrored }) c.requires.all_marked (lent net) refl
+    ∙ ap (λ mark. found_pair (same_mark (net_of (lent net)) (at mark)) net.n) c.requires.marks)

@@ -1,11 +1,6 @@
-use borrow.Author.Tests.{lt-ltb, le-ltb}
-use Rattle.plan_laws.specs.Spreading.{next_path}
+use Rattle.std.proofs.Common.{arith}
+use Rattle.sides.proofs.Steps.{next_met}
 use Rattle.sides.proofs.next_path.Goals as goal
 
-pub returns-then-c-n : goal.returns-then-c-n
-unfolding next_path
-returns-then-c-n c = rw (← c.first_between-c.ensures, lt-ltb _ _ c.if-c-n.true)
-
-pub returns : goal.returns
-unfolding next_path
-returns c = rw (← c.first_between-c.ensures, le-ltb _ _ c.if-c-n.false) c.first_between.ensures
+pub returns-in-Some : goal.returns-in-Some
+returns-in-Some c = next_met c.args.n c.in-Some.met c.args.mark.now (omega arith) c.in-Some.ensures

@@ -1,12 +1,7 @@
-use Prim.Native.Nat.{◌+◌, ◌-◌, ◌^◌, ◌≤◌, ◌<◌}
-use mathlib.Core.Path.{◌≡◌}
-use lib.ListN.{length, drop}
-use Rattle.rules.specs.Text.{run, is_digit, value_from}
+use Rattle.std.proofs.Common.{◌≡◌, ◌^◌, ◌<◌, drop}
+use Rattle.rules.specs.Text.{value_from}
 use Rattle.text.proofs.value.Given as goal
 
-abbrev pub invariant-loop-i : goal.invariant-loop-i
-invariant-loop-i l =
-    (value_from l.v (run is_digit (drop l.i l.text)) ≡ value_from 0 (run is_digit (drop l.place l.text))) × (l.i + length (run is_digit (drop l.i l.text)) ≡ l.end) × (l.place ≤ l.i) × (l.v < 10 ^ (l.i - l.place))
-
-abbrev pub decreases-loop-i : goal.decreases-loop-i
-decreases-loop-i l = l.end - l.i
+abbrev pub invariant-loop-digit : goal.invariant-loop-digit
+invariant-loop-digit l =
+    (value_from l.value (drop l.digit-index l.digits) ≡ value_from 0 l.digits) × (l.value < 10 ^ l.digit-index)

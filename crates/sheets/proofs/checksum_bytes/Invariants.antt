@@ -1,5 +1,0 @@
-use Prim.Native.Nat.{◌<◌}
-use Rattle.sheets.proofs.checksum_bytes.Given as goal
-
-abbrev pub invariant-loop-cell : goal.invariant-loop-cell
-invariant-loop-cell l = l.total < 65521
