@@ -41,18 +41,18 @@
  *   nesbrunka_judge            400
  *   nesbrunka_pack             480
  *   nesbrunka_press            752
- *   nesbrunka_why              880
+ *   nesbrunka_why              744
  *   nesbrunka_better           704
- *   nesbrunka_two_sides        576
- *   nesbrunka_plan             896
+ *   nesbrunka_two_sides        320
+ *   nesbrunka_plan             656
  *   nesbrunka_improve          588
  *   nesbrunka_floor          1,376
- *   nesbrunka_read             432
+ *   nesbrunka_read             304
  *   nesbrunka_write            464
  *   nesbrunka_centre             8
  *   nesbrunka_centre_number      8
  *   nesbrunka_order_write      352
- *   nesbrunka_order_read       560
+ *   nesbrunka_order_read       576
  *
  * Answers. `number` is NESBRUNKA_DONE or the number of a refusal, `place` says where. A refused
  * call changes no table, and its other numbers are 0, but for `short_` beside

@@ -29,7 +29,17 @@ fn respond<W: Write, E: Write>(
 {
     let mut tables = Tables::new();
     let mut text = [0u8; asking::ANSWER_MOST];
-    let m = asking::answer(count, first, second, input, &mut tables, &mut text);
+    let m = asking::answer(
+        count,
+        first,
+        second,
+        input,
+        &mut tables.labels,
+        &mut tables.widths,
+        &mut tables.guards,
+        &mut tables.starts,
+        &mut text,
+    );
     console::print(out, errors, &text[..m], b"ask: standard output")
 }
 

@@ -1,6 +1,6 @@
 // A case: the name of a line, its call and its fields. Each function is total: what does not stand in the line, or does
 // not fit, counts as the usual value.
-ghost use Rattle.std.specs.Prelude.{◌≡◌, ◌<◌};
+ghost use Rattle.std.specs.Prelude.{◌≡◌, ◌≤◌, ◌<◌, length};
 
 // A line that is a case, and the name that it begins with.
 #[derive(Clone, Copy)]
@@ -100,7 +100,9 @@ impl<'a> Case<'a> {
         key: &[u8],
         most: T,
         table: &'t mut [T],
-    ) -> &'t mut [T] {
+    ) -> &'t mut [T]
+        ensures { length result.now ≤ length table.old }
+    {
         let usual = self.number(key, b'=', 0);
         let mut list = self.field(key, b':');
         for cell in table.iter_mut() {
@@ -118,6 +120,7 @@ impl<'a> Case<'a> {
     // The same of the guards of n paths.
     pub fn guards<'t>(&self, n: usize, guards: &'t mut [u8]) -> &'t mut [u8]
         requires { n < 100000 }
+        ensures { length result.now ≤ length guards.old }
     {
         guards.fill(saturated(self.number(b"guards", b'=', 255)));
         let mut list = self.field(b"guards", b':');

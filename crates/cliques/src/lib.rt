@@ -2,7 +2,7 @@
 #![tactic(auto)]
 
 ghost use Rattle.std.specs.Prelude.{◌≡◌, not, ◌||◌, ℕ, ◌≤◌, ◌<◌, eqb, length, All, sum_by};
-ghost use Rattle.rules.specs.Tables.{at};
+ghost use Rattle.rules.specs.Tables.{at, Lent};
 ghost use Rattle.rules.specs.Plan.{net_of, in_conflict};
 ghost use Rattle.rules.specs.Numbers.{bad_member, list_fault};
 ghost use Rattle.rules.specs.Told.{told};
@@ -25,7 +25,7 @@ fn is_stranger(net: &Network, i: usize, j: usize) -> bool
 // The entry at position k is no path, or such a stranger to those before it, which are paths.
 fn is_bad(net: &Network, list: &[u8], k: usize) -> bool
     requires { (k < length list.now) × ((i : ℕ) → i < k → at list.now i < net.now.n) }
-    ensures { result ≡ bad_member net.now.n (net_of (lent net.now)) list.now k }
+    ensures { (l : Lent) → l.guards ≡ net.now.guards.now → result ≡ bad_member net.now.n (net_of l) list.now k }
 {
     let path = usize::from(list[k]);
     net.n <= path || (0..k).any(|i| is_stranger(net, usize::from(list[i]), path))
@@ -33,7 +33,7 @@ fn is_bad(net: &Network, list: &[u8], k: usize) -> bool
 
 // 15: the list is empty or over 8, place 0; or one of its entries is at fault, the first of them.
 pub fn check_list(net: &Network, list: &[u8]) -> Result<(), Refusal>
-    ensures { told result ≡ list_fault net.now.n (net_of (lent net.now)) list.now }
+    ensures { (l : Lent) → l.guards ≡ net.now.guards.now → told result ≡ list_fault net.now.n (net_of l) list.now }
 {
     tables::refuse_if(!(1..=LIST_MOST).contains(&list.len()), Cause::List)?;
     for k in 0..list.len() {

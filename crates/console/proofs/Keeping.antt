@@ -38,6 +38,10 @@ front out after w r h l =
     let v : after ≡ w ++ drop (length w) out = h.1 ∙ sets-eq w out 0 (omega arith) ∙ ap (λ (k : ℕ). w ++ drop k out) (let g : 0 + length w ≡ length w = omega arith in g) in
     rw (e, v) (take-append_seam w (drop (length w) out))
 
+-- none came; more came
+pub none_came : (text : List ℕ) → Came text 0 text
+none_came text = record { within = omega arith; front = refl; rest = refl }
+
 -- what a text has once more came: that which it had, and then what there was room for
 front_more : (text₀ text text' came : List ℕ) (have r : ℕ) → Came text₀ have text → Kept text have came r text' → length text' ≡ length text₀
     → (r ≡ 0 + length (take have text ++ room text have came)) × (text' ≡ sets text₀ 0 (take have text ++ room text have came)) × (take r text' ≡ take have text ++ room text have came)

@@ -10,12 +10,10 @@
 ghost use Rattle.std.specs.Prelude.{◌≡◌, ◌+◌, ◌≤◌, ◌<◌, length, take, IfSome, IsNone, IsTrue, ◌↔◌};
 ghost use Rattle.std.specs.Io.KnownBytes.{Appends, IsAtEnd};
 ghost use Rattle.rules.specs.Program.{refusal_text};
-ghost use Rattle.rules.specs.Told.{refused};
 ghost use Rattle.spelling.specs.Says.{Wrote};
 ghost use Rattle.console.specs.Failed.{IsLasting};
 ghost use Rattle.console.specs.Kept.{Kept, Came, Took};
 
-use rules::Refusal;
 use spelling::{Pen, Sink};
 use std::env::{Env, FillError};
 use std::io::{Cursor, Error, ErrorKind, Read, Write};
@@ -203,27 +201,24 @@ pub fn argument(rt: &HostRuntime, place: usize, text: &mut [u8]) -> usize
     rt.arg(place, text).unwrap_or(0)
 }
 
-// Puts the one line of a refusal: the number, then the line, which is its place.
-#[tactic(auto, using(crate::proofs::Refusal::number_few))]
-fn put_refusal<S: Sink>(sink: &mut S, refusal: &Refusal)
-    requires { (refusal.now.place < 100000) × (25 ≤ S.room sink.old) }
-    ensures wrote { S.takes sink.old
-        (refusal_text (refused refusal.now).number refusal.now.place) sink.new }
+// Puts the one line of a refusal: the number, then the line.
+fn put_refusal<S: Sink>(sink: &mut S, number: usize, line: usize)
+    requires { (number < 100000) × (line < 100000) × (25 ≤ S.room sink.old) }
+    ensures wrote { S.takes sink.old (refusal_text number line) sink.new }
     ensures upper_bound { S.room sink.old ≤ S.room sink.new + 25 }
 {
-    phrases::put_part(sink, b"refused ", refusal.cause.number());
-    phrases::put_part(sink, b" line ", refusal.place);
+    phrases::put_part(sink, b"refused ", number);
+    phrases::put_part(sink, b" line ", line);
     sink.put_word(b"\n");
 }
 
 // The one line of a refusal, at the start of a text. Answers its length.
-pub fn refuse(out: &mut [u8], refusal: &Refusal) -> usize
-    requires { (refusal.now.place < 100000) × (25 ≤ length out.old) }
-    ensures wrote { Wrote out.old 0
-        (refusal_text (refused refusal.now).number refusal.now.place) result out.new }
+pub fn refuse(out: &mut [u8], number: usize, line: usize) -> usize
+    requires { (number < 100000) × (line < 100000) × (25 ≤ length out.old) }
+    ensures wrote { Wrote out.old 0 (refusal_text number line) result out.new }
     ensures upper_bound { result ≤ 25 }
 {
     let mut pen = Pen::new(out);
-    put_refusal(&mut pen, refusal);
+    put_refusal(&mut pen, number, line);
     pen.place()
 }

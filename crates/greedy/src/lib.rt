@@ -18,7 +18,8 @@ pub fn greedy_order(net: &Network, order: &mut [u8])
         ≡ greedy (lowest (net_of (lent net.now))) net.now.n table order.old net.now.n }
 {
     let net = *net;
-    let mut need = [engine::LOWEST; rules::PATHS];
+    let mut need = [0; rules::PATHS];
+    engine::lowest_starts(net.n, &mut need);
     for m in 0..net.n {
         let c = engine::least_key(net.n, &need);
         engine::place(&net, c, net.width(c), &mut need);

@@ -1,15 +1,17 @@
--- The same key as a number to the base 256, over any eight bytes; and that the search for a label's bytes is the search
--- for its key. Assumes nothing.
-use Rattle.std.specs.Prelude.{ℕ, zero, suc, ◌+◌, ◌-◌, ◌*◌, ◌^◌, ◌≤◌, ◌<◌, ◌≡◌, refl, Bool, true, false, List, ltb, eqb}
-use Rattle.std.proofs.Common.{sym, subst, ap, ◌∙◌, lt_of_lt_of_le, arith, lit<, eq-eqb, ne_eqb}
+-- The same key as a number to the base 256, over any eight bytes; that the number which the code reads from a row, or
+-- makes of a label, is this key; and that the search for a label's bytes is the search for its key. Assumes nothing.
+use Rattle.std.specs.Prelude.{ℕ, zero, suc, ◌+◌, ◌-◌, ◌*◌, ◌^◌, ◌≤◌, ◌<◌, ◌≡◌, refl, Bool, true, false, List, take, drop, ltb, eqb}
+use Rattle.std.specs.Int.{from_le_bytes, w64}
+use Rattle.std.proofs.Common.{zero-add, sym, subst, ap, ◌∙◌, lt_of_lt_of_le, arith, lit<, get_or-take, get_or-drop, eq-eqb, ne_eqb}
 use Rattle.std.proofs.Math.Nat.{pow-le-pow_right}
 use Rattle.std.proofs.Math.Decide.{ℕ_discrete}
 use Rattle.rules.specs.Tables.{at, label_byte}
 use Rattle.rules.specs.Scan.{first, found}
-use Rattle.rules.specs.Sheet.{is_row, find}
+use Rattle.rules.specs.Sheet.{is_row, find, bytes_from}
 use Rattle.rules.specs.Writing.{label_of, bad_label, label_twice}
-use Rattle.sheet_laws.specs.Rows.{first_same, row_same, row_bytes}
+use Rattle.sheet_laws.specs.Rows.{first_same, row_same, row_bytes, bytes_at}
 use Rattle.sheet_laws.specs.Writes.{good_label}
+use Rattle.labels.specs.Keys as name
 
 -- m bytes of f from byte j on, the first of them lowest
 unfoldable pub pack : ℕ → ℕ → (ℕ → ℕ) → ℕ
@@ -68,6 +70,22 @@ pub pack_equal : (m j : ℕ) (f g : ℕ → ℕ) → ((i : ℕ) → j ≤ i → 
 unfolding pack
 pack_equal zero j f g h = refl
 pack_equal (suc m) j f g h = rw (pack_equal m (suc j) f g (λ i a b. h i (omega arith) (omega arith)), h j (omega arith) (omega arith))
+
+-- eight bytes, read as one number, the first of them lowest
+bytes_key : (bytes : List ℕ) → from_le_bytes w64 bytes ≡ key_of (at bytes)
+unfolding pack
+bytes_key bytes = omega arith
+
+-- so path k's row is its key, and the key that the code makes of a label is that of its bytes
+pub row_packed : (labels : List ℕ) (k : ℕ) → from_le_bytes w64 (take 8 (drop (8 * k) labels)) ≡ row_key labels k
+row_packed labels k =
+    let row = take 8 (drop (8 * k) labels) in
+    bytes_key row ∙ pack_equal 8 0 (at row) (label_byte labels k) (λ j h l. rw (get_or-take, get_or-drop))
+
+pub name_packed : (w : List ℕ) → name.key_of w ≡ key_of (at w)
+unfolding name.key_of
+name_packed w =
+    bytes_key (bytes_from 8 0 w) ∙ pack_equal 8 0 (at (bytes_from 8 0 w)) (at w) (λ j h l. rw zero-add at (bytes_at 8 0 w j l))
 
 -- a path's label is w exactly where their keys are equal
 pub row_key_lem : (labels w : List ℕ) (k : ℕ) → Bytes (label_byte labels k) → Bytes (at w) → is_row labels w k ≡ eqb (row_key labels k) (key_of (at w))

@@ -1,20 +1,21 @@
 -- The paths filed by the slot after their end, 32 slots to a file and every 128th file in one. A path stands in
 -- its own file and in the next, so that all paths that may hold up another are in one file: that of its start,
 -- since a guard is at most 32. Assumes nothing.
-use Rattle.std.specs.Prelude.{ℕ, ◌+◌, ◌-◌, ◌/◌, ◌%◌, ◌≤◌, ◌<◌, ◌≡◌, refl, ◌≢◌, ◌⊎◌, Bool, cond, ◌&&◌, List, length, set, ltb, eqb, Some, None}
-use Rattle.std.proofs.Common.{sym, ap, subst, ◌∙◌, inl, inr, arith, length-set, eq-eqb, ne_eqb}
+use Rattle.std.specs.Prelude.{ℕ, ◌+◌, ◌-◌, ◌/◌, ◌%◌, ◌≤◌, ◌<◌, ◌≡◌, refl, ◌≢◌, ◌⊎◌, Bool, cond, ◌&&◌, List, length, set, ltb, eqb, Option, Some, None}
+use Rattle.std.proofs.Common.{sym, ap, subst, ◌∙◌, inl, inr, arith, length-set, eq-eqb, ne_eqb, lt-ltb, le-ltb}
 use Rattle.std.proofs.Math.Bool.{true, false}
 use Rattle.std.proofs.Math.Nat.{ℕ_set}
 use Rattle.std.proofs.Props as std_props
 use Rattle.std.proofs.Math.Decide.{dec_lt, ℕ_discrete}
 use Rattle.std.proofs.lemmas.Bool.Decides.{nat_tests}
-use Rattle.rules.specs.Tables.{at, cell, cleared}
-use Rattle.rules.specs.Scan.{found}
+use Rattle.rules.specs.Tables.{at, cell, cleared, Lent}
+use Rattle.rules.specs.Limits.{Network}
+use Rattle.rules.specs.Scan.{first, found}
 use Rattle.rules.specs.Plan.{Net, net_of}
 use Rattle.rules.specs.Reason.{is_below, holds_up, link, HoldsUp}
 use Rattle.network.specs.declared.Plan.{Plan}
 use Rattle.network.specs.Lent.{lent}
-use Rattle.table_laws.specs.Scans.{first_at, found_at, found_none}
+use Rattle.table_laws.specs.Scans.{first_none, first_at, found_at, found_none}
 use Rattle.table_laws.specs.Tables.{at_same, at_other, cleared_at, cleared_length}
 use Rattle.plan_laws.specs.Fits.{network_bounds}
 use Rattle.plan_laws.specs.Reason.{holds_parts}
@@ -153,7 +154,15 @@ pub record Searching (holds : ℕ → Bool) (file : ℕ → ℕ) (n b j : ℕ) :
   pub before : (i : ℕ) → i < j → i < n → Stands (file i) b → holds i ≡ false
   pub here : j < n → Stands (file j) b
 
+pub record Searched (holds : ℕ → Bool) (file : ℕ → ℕ) (n b r : ℕ) : Type 0 where
+  pub within : r ≤ n
+  pub before : (i : ℕ) → i < r → Stands (file i) b → holds i ≡ false
+  pub found : r < n → holds r ≡ true
+
 module _ (holds : ℕ → Bool) (file : ℕ → ℕ) (n b j : ℕ) where
+  pub search_first : Next file n b 0 j → Searching holds file n b j
+  search_first f = record { before = λ i g h e. absurd (f.skip i (omega arith) g h e); here = f.hit }
+
   search_more : (r : ℕ) → Searching holds file n b j → holds j ≡ false → Next file n b (j + 1) r → Searching holds file n b r
   search_more r s e f = record { before = λ i g h q. go i g h q (dec_lt i j) (ℕ_discrete i j); here = f.hit }
     where
@@ -178,6 +187,12 @@ module _ (holds : ℕ → Bool) (file : ℕ → ℕ) (n b j : ℕ) where
       go (yes y) = let is : r ≡ at owns j = q ∙ rw (eq-eqb (file j) b y) in moved (file j) y (rw is (f.own j (omega arith) l))
       go (no y) = let is : r ≡ at ups j = q ∙ rw (ne_eqb (file j) b y) in moved (above (file j)) (other y (s.here l)) (rw is (f.over j (omega arith) l))
 
+  pub search_found : j < n → Searching holds file n b j → holds j ≡ true → Searched holds file n b j
+  search_found l s e = record { within = omega arith; before = λ i g q. s.before i g (omega arith) q; found = λ h. e }
+
+  pub search_none : n ≤ j → Searching holds file n b j → Searched holds file n b n
+  search_none l s = record { within = omega arith; before = λ i g q. s.before i (omega arith) (omega arith) q; found = λ h. absurd (omega arith) }
+
 -- a path that ends just below slot s with a guard of at most 32 is in the file of s
 ends_near : (s t g : ℕ) → t + g ≡ s → g ≤ 32 → Stands (file_at t) (file_at s)
 ends_near s t g e l = go (ℕ_discrete (t / 32) (s / 32))
@@ -186,52 +201,96 @@ ends_near s t g e l = go (ℕ_discrete (t / 32) (s / 32))
     go (yes q) = inl (ap (λ (x : ℕ). x % 128) q)
     go (no q) = inr (let d : t / 32 + 1 ≡ s / 32 = omega arith in let m : (t / 32 % 128 + 1) % 128 ≡ (t / 32 + 1) % 128 = omega arith in m ∙ ap (λ (x : ℕ). x % 128) d)
 
--- path k of a plan, and the paths that hold it up
-module _ (p : Plan) (k : ℕ) (l : k < p.net.n) where
-  abbrev n : ℕ
-  n = p.net.n
+-- the test of a pair: end + guard + 1 is the start, and then the path starts lower
+pub meets_holds : (net : Net) (plan : ℕ → ℕ) (k j : ℕ) → net.guard k j ≡ net.guard j k → 1 ≤ net.width j
+    → (ltb (net.guard k j) 255 && eqb (plan j + net.width j + net.guard k j) (plan k)) ≡ holds_up net plan k j
+unfolding holds_up is_below
+meets_holds net plan k j e w = grind (arith, nat_tests)
 
+-- path k of a network, and the paths that hold it up
+module _ (n : ℕ) (tables : Lent) (starts : List ℕ) (k : ℕ) (w : Network n tables) (l : k < n) where
   abbrev net : Net
-  net = net_of (lent p.net)
+  net = net_of tables
 
   abbrev file : ℕ → ℕ
-  file = file_of p.net.widths.now p.starts.now
+  file = file_of tables.widths starts
 
   abbrev holds : ℕ → Bool
-  holds = holds_up net (at p.starts.now) k
+  holds = holds_up net (at starts) k
 
-  -- the test of a pair: end + guard + 1 is the start, and then the path starts lower
-  pub meets_holds : (j : ℕ) → j < n
-      → holds j ≡ (ltb (at p.net.guards.now (cell k j)) 255 && eqb (at p.starts.now j + at p.net.widths.now j + at p.net.guards.now (cell k j)) (at p.starts.now k))
-  unfolding holds_up is_below
-  meets_holds j m =
-      let e = p.net.within.mirrored k j l m in
-      let w = p.net.within.width j m in
-      grind (arith, nat_tests)
-
-  held_file : (i : ℕ) → HoldsUp net (at p.starts.now) n k i → Stands (file i) (file_at (at p.starts.now k))
+  held_file : (i : ℕ) → HoldsUp net (at starts) n k i → Stands (file i) (file_at (at starts k))
   held_file i h =
-      ends_near (at p.starts.now k) (at p.starts.now i + at p.net.widths.now i) (at p.net.guards.now (cell i k)) (omega (arith, h.meets, (p.net.within.width i h.path).0))
-      ((network_bounds n (lent p.net) p.net.within).near i k h.path l h.conflict)
+      ends_near (at starts k) (at starts i + at tables.widths i) (at tables.guards (cell i k)) (omega (arith, h.meets, (w.width i h.path).0))
+      ((network_bounds n tables w).near i k h.path l h.conflict)
 
-  not_held : (r : ℕ) → Searching holds file n (file_at (at p.starts.now k)) r → (i : ℕ) → i < r → i < n → holds i ≡ false
+  -- the search of the file of k's start gives its link
+  pub link_found : (r : ℕ) → Searched holds file n (file_at (at starts k)) r → r ≡ link net (at starts) n k
+  unfolding link
+  link_found r f = go (dec_lt r n)
+    where
+      not_held : (i : ℕ) → i < r → (b : Bool) → holds i ≡ b → holds i ≡ false
+      not_held i g false e = e
+      not_held i g true e = f.before i g (held_file i (holds_parts net (at starts) k i n (omega (arith, f.within)) e))
+
+      go : Dec (r < n) → r ≡ first holds n
+      go (yes x) = sym (first_at holds n r (λ i g. not_held i g (holds i) refl) (f.found x) x)
+      go (no x) =
+          let q : r ≡ n = omega (arith, f.within) in
+          q ∙ sym (first_none holds n (λ i g. not_held i (omega arith) (holds i) refl))
+
+  not_held : (r : ℕ) → Searching holds file n (file_at (at starts k)) r → (i : ℕ) → i < r → i < n → holds i ≡ false
   not_held r s i g x = go (holds i) refl
     where
       go : (b : Bool) → holds i ≡ b → holds i ≡ false
       go false e = e
-      go true e = s.before i g x (held_file i (holds_parts net (at p.starts.now) k i n x e))
+      go true e = s.before i g x (held_file i (holds_parts net (at starts) k i n x e))
 
-  -- the search of the file of k's start gives its link, or tells that there is none
-  pub link_some : (r : ℕ) → Searching holds file n (file_at (at p.starts.now k)) r → r < n → holds r ≡ true
-      → Some r ≡ cond (found holds n) (Some (link net (at p.starts.now) n k)) None
+  -- and it tells whether there is one
+  pub link_some : (r : ℕ) → Searching holds file n (file_at (at starts k)) r → r < n → holds r ≡ true
+      → Some r ≡ cond (found holds n) (Some (link net (at starts) n k)) None
   unfolding link
   link_some r s x e = rw (found_at holds n r x e, first_at holds n r (λ i g. not_held r s i g (omega arith)) e x) refl
 
-  pub link_none : (r : ℕ) → Searching holds file n (file_at (at p.starts.now k)) r → n ≤ r
-      → None ≡ cond (found holds n) (Some (link net (at p.starts.now) n k)) None
+  pub link_none : (r : ℕ) → Searching holds file n (file_at (at starts k)) r → n ≤ r
+      → None ≡ cond (found holds n) (Some (link net (at starts) n k)) None
   link_none r s x = rw (found_none holds n (λ i g. not_held r s i (omega arith) g)) refl
 
--- the test of a pair, for the code
-pub ruleset pairs = (meets_holds, nat_tests)
+-- the two ways out of the test of a pair
+pub meets_free : (g x t : ℕ) → 255 ≤ g → false ≡ (ltb g 255 && eqb x t)
+meets_free g x t l = rw (le-ltb g 255 l)
 
-pub ruleset searches = (search_step, link_some, link_none)
+pub meets_told : (g x t : ℕ) → g < 255 → eqb x t ≡ (ltb g 255 && eqb x t)
+meets_told g x t l = rw (lt-ltb g 255 l)
+
+-- the two ways out of the look-up
+pub own_told : (file b x y f : ℕ) → f ≡ file → f ≡ b → x ≡ cond (eqb file b) x y
+own_told file b x y f e q = rw (eq-eqb file b (sym e ∙ q))
+
+pub up_told : (file b x y f : ℕ) → f ≡ file → f ≢ b → y ≡ cond (eqb file b) x y
+up_told file b x y f e q = rw (ne_eqb file b (λ z. q (e ∙ z)))
+
+-- the same of a plan's paths, for the code
+module _ (p : Plan) (k : ℕ) (l : k < p.net.n) where
+  abbrev plan_holds : ℕ → Bool
+  plan_holds = holds_up (net_of (lent p.net)) (at p.starts.now) k
+
+  abbrev plan_search : ℕ → Type 0
+  plan_search = Searching plan_holds (file_of p.net.widths.now p.starts.now) p.net.n (file_at (at p.starts.now k))
+
+  abbrev plan_link : Option ℕ
+  plan_link = cond (found plan_holds p.net.n) (Some (link (net_of (lent p.net)) (at p.starts.now) p.net.n k)) None
+
+  pub pair_holds : (j : ℕ) → j < p.net.n
+      → plan_holds j ≡ (ltb (at p.net.guards.now (cell k j)) 255 && eqb (at p.starts.now j + at p.net.widths.now j + at p.net.guards.now (cell k j)) (at p.starts.now k))
+  pair_holds j m =
+      sym (meets_holds (net_of (lent p.net)) (at p.starts.now) k j (p.net.within.mirrored k j l m) (p.net.within.width j m).0)
+
+  pub plan_some : (r : ℕ) → plan_search r → r < p.net.n → plan_holds r ≡ true → Some r ≡ plan_link
+  plan_some = link_some p.net.n (lent p.net) p.starts.now k p.net.within l
+
+  pub plan_none : (r : ℕ) → plan_search r → p.net.n ≤ r → None ≡ plan_link
+  plan_none = link_none p.net.n (lent p.net) p.starts.now k p.net.within l
+
+pub ruleset pairs = (pair_holds, nat_tests)
+
+pub ruleset searches = (search_step, plan_some, plan_none)

@@ -16,7 +16,7 @@ use rules::PATHS;
 // 32 slots to a file, as many as a guard can have, and every 128th file in one, so that there are few to clear.
 const SLOTS: usize = 32;
 
-const FILES: usize = 128;
+pub const FILES: usize = 128;
 
 // No path has this number.
 const NONE: u8 = 128;
@@ -65,10 +65,11 @@ pub struct Room {
 }
 
 impl Room {
+    // What it holds at first is never read: `Files::of` sets the heads, which are then set once.
     pub const EMPTY: Room = Room {
-        heads: [NONE; FILES],
-        owns: [NONE; PATHS],
-        ups: [NONE; PATHS],
+        heads: [0; FILES],
+        owns: [0; PATHS],
+        ups: [0; PATHS],
     };
 }
 

@@ -15,6 +15,7 @@ use Rattle.table_laws.specs.Limits.{starts_within}
 use Rattle.table_laws.specs.Chains.{lent_clear}
 use Rattle.table_laws.specs.Results.{unless_err, unless_ok}
 use Rattle.sheet_laws.specs.Sizes.{labels_clear}
+use Rattle.sheet_laws.specs.Shorts.{or_short, scan_short, start_short, order_short}
 use Rattle.sections.specs.Says.{ended_of}
 use Rattle.order_writer.specs.Ready.{Ready}
 use Rattle.order.specs.Tests.{table_fault}
@@ -39,6 +40,11 @@ module _ (anchor : ℤ) (n : ℕ) (labels : List ℕ) (lent : Lent) (starts : Li
   pub table_passed : (table_fault anchor n labels lent starts).number ≡ 0 → Passed anchor n labels lent starts
   unfolding table_fault
   table_passed z = lent_passed (or_clear _ _ z).0
+
+  -- none of their tests says that slots are short
+  pub table_short : (table_fault anchor n labels lent starts).short ≡ 0
+  unfolding table_fault
+  table_short = or_short _ _ (order_short anchor n labels lent starts) (or_short _ _ (scan_short 11 _ n) (or_short _ _ (scan_short 12 _ n) (start_short n starts)))
 
   pub table_ready : (low : ℕ) → 98976 ≤ low → low ≤ 101024 → (table_fault anchor n labels lent starts).number ≡ 0 → Ready low n labels lent.widths starts
   unfolding table_fault

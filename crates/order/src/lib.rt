@@ -1,7 +1,7 @@
 // The order sheet's two public calls (RULES 27): `order_write` and `order_read`. Nothing is asked of the caller.
 #![tactic(auto)]
 
-ghost use Rattle.std.specs.Prelude.{◌≡◌};
+ghost use Rattle.std.specs.Prelude.{◌≡◌, IfErr};
 ghost use Rattle.rules.specs.Tables.{lend};
 ghost use Rattle.rules.specs.Numbers.{order_read_fault};
 ghost use Rattle.rules.specs.Calls.{left, order_writing, order_reading};
@@ -63,9 +63,10 @@ pub fn order_write(
     starts: &[u16],
     text: &mut [u8],
 ) -> Result<usize, Refusal>
-    ensures { left (written_of result) text.new
+    ensures writes { left (written_of result) text.new
         ≡ order_writing anchor n labels.now (lend widths.now guards.now)
         starts.now text.old }
+    ensures short { IfErr result (λ r. r.short ≡ 0) }
 {
     check_tables(anchor, n, labels, widths, guards, starts)?;
     let low = grid::counted(anchor);
@@ -85,9 +86,10 @@ pub fn order_read(
     guards: &[u8],
     starts: &mut [u16],
 ) -> Result<(), Refusal>
-    ensures { left (order_read_of result) starts.new
+    ensures reads { left (order_read_of result) starts.new
         ≡ order_reading anchor text.now n labels.now
         (lend widths.now guards.now) starts.old }
+    ensures short { IfErr result (λ r. r.short ≡ 0) }
 {
     check_lent(anchor, n, labels, widths, guards, starts)?;
     let low = grid::counted(anchor);

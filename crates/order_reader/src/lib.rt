@@ -1,7 +1,7 @@
 // An inner crate, for `order`: an order sheet read into a table of starts (RULES 27).
 #![tactic(auto)]
 
-ghost use Rattle.std.specs.Prelude.{◌≡◌, ◌+◌, ◌*◌, ◌≤◌, ◌<◌, length, IfSome};
+ghost use Rattle.std.specs.Prelude.{◌≡◌, ◌+◌, ◌*◌, ◌≤◌, ◌<◌, length, IfSome, IfErr};
 ghost use Rattle.rules.specs.Sheet.{lines};
 ghost use Rattle.rules.specs.Grid.{order_line, order_step, order_from};
 ghost use Rattle.sheet_laws.specs.Grid.{lowered};
@@ -70,8 +70,9 @@ fn order_lines<'a>(
 ) -> Result<&'a [u8], Refusal>
     requires { (anchor ≤ 101024) × (n ≤ 128) × (length labels.now ≡ 1024)
         × (length widths.now ≡ 128) × (length starts.old ≡ 128) }
-    ensures { section_of starts.new result
+    ensures section { section_of starts.new result
         ≡ lines (order_step (lowered anchor) labels.now widths.now) 2 n 0 starts.old text.now }
+    ensures short { IfErr result (λ r. r.short ≡ 0) }
 {
     let mut rest = text;
     for k in 0..n {
@@ -93,8 +94,9 @@ pub fn order_part(
 ) -> Result<(), Refusal>
     requires { (anchor ≤ 101024) × (n ≤ 128) × (length labels.now ≡ 1024)
         × (length widths.now ≡ 128) × (length starts.old ≡ 128) }
-    ensures { ended_of starts.new result
+    ensures sheet { ended_of starts.new result
         ≡ order_from (lowered anchor) n labels.now widths.now starts.old text.now }
+    ensures short { IfErr result (λ r. r.short ≡ 0) }
 {
     let (m, rest) = text::count_line(text, text::ORDER_WORD).ok_or(Refusal::at(Cause::Form, 1))?;
     if m != n {

@@ -5,12 +5,11 @@
 
 ghost use Rattle.std.specs.Prelude.{◌≡◌, ◌++◌, ◌+◌, ◌*◌, ◌≤◌, ◌<◌, length};
 ghost use Rattle.rules.specs.Text.{numeral};
-ghost use Rattle.rules.specs.Told.{refused};
 ghost use Rattle.rules.specs.Writing.{label_of};
 ghost use Rattle.rules.specs.Asking.{slots_text, block_text, valid_text, clash_text, unknown_text, refused_text};
 ghost use Rattle.spelling.specs.Says.{Wrote};
 
-use rules::{Cause, Refusal};
+use rules::Cause;
 use spelling::{Pen, Sink};
 
 // Puts words and a number.
@@ -99,18 +98,25 @@ fn put_unknown<S: Sink>(sink: &mut S, name: &[u8])
 
 // Puts what is said of a refusal of a sheet's network: no path has the label, two paths clash, or else there are
 // no starts.
-fn put_cause<S: Sink>(sink: &mut S, labels: &[u8], name: &[u8], refusal: &Refusal)
+fn put_cause<S: Sink>(
+    sink: &mut S,
+    labels: &[u8],
+    name: &[u8],
+    number: usize,
+    cell: usize,
+    short: usize,
+)
     requires { (length labels.now ≡ 1024) × (length name.now ≤ 8)
-        × ((refused refusal.now).number ≡ 8 → (refusal.now.place < 16384) × (refusal.now.short < 100000))
-        × (9000 ≤ S.room sink.old) }
-    ensures wrote { S.takes sink.old (refused_text labels.now name.now (refused refusal.now).number
-        refusal.now.place refusal.now.short) sink.new }
+        × (number ≡ 8 → (cell < 16384) × (short < 100000)) × (9000 ≤ S.room sink.old) }
+    ensures wrote { S.takes sink.old (refused_text labels.now name.now number cell short) sink.new }
     ensures upper_bound { S.room sink.old ≤ S.room sink.new + 9000 }
 {
-    match refusal.cause {
-        Cause::Entry => put_unknown(sink, name),
-        Cause::Clash => put_clash(sink, labels, refusal.place, refusal.short),
-        _ => sink.put_word(b"The sheet has no plan.\n"),
+    if number == Cause::Entry.number() {
+        put_unknown(sink, name);
+    } else if number == Cause::Clash.number() {
+        put_clash(sink, labels, cell, short);
+    } else {
+        sink.put_word(b"The sheet has no plan.\n");
     }
 }
 
@@ -126,15 +132,21 @@ pub fn put_valid(text: &mut [u8], top: usize) -> usize
 }
 
 // The text of a refusal.
-pub fn put_refused(text: &mut [u8], labels: &[u8], name: &[u8], refusal: &Refusal) -> usize
+pub fn put_refused(
+    text: &mut [u8],
+    labels: &[u8],
+    name: &[u8],
+    number: usize,
+    cell: usize,
+    short: usize,
+) -> usize
     requires { (length labels.now ≡ 1024) × (length name.now ≤ 8)
-        × ((refused refusal.now).number ≡ 8 → (refusal.now.place < 16384) × (refusal.now.short < 100000))
-        × (9000 ≤ length text.old) }
-    ensures wrote { Wrote text.old 0 (refused_text labels.now name.now (refused refusal.now).number
-        refusal.now.place refusal.now.short) result text.new }
+        × (number ≡ 8 → (cell < 16384) × (short < 100000)) × (9000 ≤ length text.old) }
+    ensures wrote { Wrote text.old 0
+        (refused_text labels.now name.now number cell short) result text.new }
     ensures upper_bound { result ≤ 9000 }
 {
     let mut pen = Pen::new(text);
-    put_cause(&mut pen, labels, name, refusal);
+    put_cause(&mut pen, labels, name, number, cell, short);
     pen.place()
 }

@@ -30,7 +30,15 @@ fn respond<W: Write, E: Write>(out: &mut W, errors: &mut E, input: &[u8], verbos
     let mut tables = Tables::new();
     let mut text = [0u8; rules::SHEET_MOST];
     let mut line = [0u8; 80];
-    let made = printing::answer(input, &mut tables, &mut text, &mut line);
+    let made = printing::answer(
+        input,
+        &mut tables.labels,
+        &mut tables.widths,
+        &mut tables.guards,
+        &mut tables.starts,
+        &mut text,
+        &mut line,
+    );
     let m = made.out;
     let e = made.line;
     let is_printed = console::print(out, errors, &text[..m], b"plan: standard output");

@@ -2,9 +2,10 @@
 use Rattle.std.specs.Prelude.{ℕ, ◌≤◌, ◌≡◌, not, Option, None, Some, List, Ok, Err, length, ltb}
 use Rattle.std.specs.Option.{ok_or}
 use Rattle.std.proofs.Common.{sym, ap, subst, ◌∙◌, arith, ltb-false}
+use Rattle.rules.specs.declared.Cause.TheVariants.{NoSides}
 use Rattle.rules.specs.declared.Refusal.{Refusal}
 use Rattle.rules.specs.Tables.{at, Lent}
-use Rattle.rules.specs.Limits.{KeptFrom}
+use Rattle.rules.specs.Limits.{Network, KeptFrom}
 use Rattle.rules.specs.Plan.{net_of}
 use Rattle.rules.specs.Packing.{lowest}
 use Rattle.rules.specs.Sides.{is_high, has_sides, two_sided}
@@ -13,7 +14,7 @@ use Rattle.rules.specs.Floor.{floor}
 use Rattle.rules.specs.Numbers.{fault, no_fault, size_fault, lent_fault, sides_fault, rounds_fault, two_sides_fault, pack_fault, improve_fault, plan_sizes, plan_fault, list_fault, floor_fault}
 use Rattle.rules.specs.declared.Planned.{Planned}
 use Rattle.rules.specs.Calls.{Left, left, siding, refused_planned, done_planned, done_improved, improving, done_plan, planning, flooring}
-use Rattle.rules.specs.Told.{refused, sided_of, floored_of}
+use Rattle.rules.specs.Told.{number_of, refused, sided_of, floored_of}
 use Rattle.table_laws.specs.Faults.{refuse_bad, refuse_not, refuse_clear, size_clear}
 use Rattle.table_laws.specs.Chains.{lent_clear}
 use Rattle.table_laws.specs.Results.{clear_none, ok_on, unless_err, unless_ok}
@@ -34,14 +35,15 @@ module _ (n : ℕ) (l : Lent) (order : List ℕ) (e : no_fault ≡ lent_fault n 
       let w = lent_clear n l (size_fault order 128) (clear_none e) in
       omega (arith, w.0.few, size_clear order 128 w.1)
 
-  sides_told : (split : Option ℕ) (after : List ℕ) → SplitIs (net_of l) n order split after → (r : Refusal) → refused r ≡ fault 9 0 → left (sided_of (ok_or split r)) after ≡ siding n l order
+  sides_told : (split : Option ℕ) (after : List ℕ) → SplitIs (net_of l) n order split after → (r : Refusal) → number_of r.cause ≡ 9 → r.place ≡ 0 → left (sided_of (ok_or split r)) after ≡ siding n l order
   unfolding siding two_sides_fault sides_fault
-  sides_told None after s r g =
-      rw s.1 (sym (unless_err _ _ r (ok_on _ e (g ∙ sym (refuse_bad (not (has_sides (net_of l) n)) 9 0 (ap not s.0))))))
-  sides_told (Some low) after s r g =
+  sides_told None after s r g h =
+      let nine : Refusal = record { cause = NoSides; place = 0; short = 0 } in
+      rw (s.1, g, h) (sym (unless_err _ _ nine (ok_on _ e (sym (refuse_bad (not (has_sides (net_of l) n)) 9 0 (ap not s.0))))))
+  sides_told (Some low) after s r g h =
       rw (s.1, s.2) (sym (unless_ok _ _ (ok_on _ e (sym (refuse_not (not (has_sides (net_of l) n)) 9 0 (ap not s.0))))))
 
-  pub sides_done : (m : ℕ) (k : Lent) → (m ≡ n) × (k ≡ l) → (split : Option ℕ) (after : List ℕ) → SplitIs (net_of k) m order split after → (r : Refusal) → refused r ≡ fault 9 0
+  pub sides_done : (m : ℕ) (k : Lent) → (m ≡ n) × (k ≡ l) → (split : Option ℕ) (after : List ℕ) → SplitIs (net_of k) m order split after → (r : Refusal) → number_of r.cause ≡ 9 → r.place ≡ 0
       → left (sided_of (ok_or split r)) after ≡ siding n l order
   sides_done m k d split after s = sides_told split after (rw (d.0, d.1) at s)
 
@@ -91,29 +93,29 @@ module _ (n : ℕ) (l : Lent) (order starts : List ℕ) (seed rounds : ℕ) (e :
         h ∙ packed_over_used m tested after starts after_packable used k s.kept ∙ improved_done m tested order starts improve_ready.0 seed rounds s after run_is ∙ done
 
 -- planning: the choice by the sides
-module _ (n : ℕ) (l : Lent) (order starts : List ℕ) (seed rounds : ℕ) (p : Plannable n l order starts seed rounds) where
+module _ (n : ℕ) (l : Lent) (order starts : List ℕ) (w : Network n l) (full : length order ≡ 128) (space : length starts ≡ 128) where
   room : n ≤ length order
-  room = omega (arith, p.order_size, p.network.few)
+  room = omega (arith, full, w.few)
 
-  sided_packable : Packable n l (two_sided n (is_high (net_of l) n) order) starts
+  pub sided_packable : Packable n l (two_sided n (is_high (net_of l) n) order) starts
   sided_packable = record {
-    network = p.network;
-    order_size = sided_length n (is_high (net_of l) n) order room ∙ p.order_size;
-    starts_size = p.starts_size;
+    network = w;
+    order_size = sided_length n (is_high (net_of l) n) order room ∙ full;
+    starts_size = space;
     whole = sided_order n (is_high (net_of l) n) order room;
   }
 
-  greedy_packable_lem : Packable n l (greedy (lowest (net_of l)) n starts order n) starts
+  pub greedy_packable_lem : Packable n l (greedy (lowest (net_of l)) n starts order n) starts
   greedy_packable_lem = record {
-    network = p.network;
-    order_size = arranged_length (start_next (lowest (net_of l)) starts) n order room n ∙ p.order_size;
-    starts_size = p.starts_size;
+    network = w;
+    order_size = arranged_length (start_next (lowest (net_of l)) starts) n order room n ∙ full;
+    starts_size = space;
     whole = arranged_order (start_next (lowest (net_of l)) starts) n order room n (omega arith);
   }
 
-  pub chosen_sided : (after : List ℕ) (low : ℕ) → SplitIs (net_of l) n order (Some low) after → Chosen n l order starts seed rounds 0 after
+  pub chosen_sided : (seed rounds : ℕ) (after : List ℕ) (low : ℕ) → SplitIs (net_of l) n order (Some low) after → Chosen n l order starts seed rounds 0 after
   unfolding done_plan
-  chosen_sided after low s = rw s.2 record { packable = sided_packable; done = rw s.0 }
+  chosen_sided seed rounds after low s = rw s.2 record { packable = sided_packable; done = rw s.0 }
 
   module _ (after : List ℕ) (s : SplitIs (net_of l) n order None after) (first : List ℕ) (e : first ≡ greedy (lowest (net_of l)) n starts after n) where
     greedy_first : first ≡ greedy (lowest (net_of l)) n starts order n
@@ -122,9 +124,9 @@ module _ (n : ℕ) (l : Lent) (order starts : List ℕ) (seed rounds : ℕ) (p :
     pub greedy_ready : Packable n l first starts
     greedy_ready = rw greedy_first greedy_packable_lem
 
-    pub chosen_greedy : (r : Standing) (last : List ℕ) → run_of r last ≡ improved (net_of l) n (lowest (net_of l)) starts first seed rounds → Chosen n l order starts seed rounds r.kept last
+    pub chosen_greedy : (seed rounds : ℕ) (r : Standing) (last : List ℕ) → run_of r last ≡ improved (net_of l) n (lowest (net_of l)) starts first seed rounds → Chosen n l order starts seed rounds r.kept last
     unfolding done_plan
-    chosen_greedy r last q = record {
+    chosen_greedy seed rounds r last q = record {
       packable = improved_packable n l first starts greedy_ready seed rounds r last q;
       done = improved_done n l first starts greedy_ready seed rounds r last q ∙ rw (s.0, ← greedy_first);
     }

@@ -3,7 +3,7 @@
 // says. Every `pub fn` here is a call.
 #![tactic(auto)]
 
-ghost use Rattle.std.specs.Prelude.{◌≡◌, Ok};
+ghost use Rattle.std.specs.Prelude.{◌≡◌, Ok, IfErr};
 ghost use Rattle.rules.specs.Tables.{lend};
 ghost use Rattle.rules.specs.Limits.{KeptFrom};
 ghost use Rattle.rules.specs.Plan.{net_of};
@@ -24,8 +24,9 @@ pub fn two_sides(
     guards: &[u8],
     order: &mut [u8],
 ) -> Result<usize, Refusal>
-    ensures { left (sided_of result) order.new
+    ensures leaves { left (sided_of result) order.new
         ≡ siding n (lend widths.now guards.now) order.old }
+    ensures short { IfErr result (λ r. r.short ≡ 0) }
 {
     let size = tables::check_size(order.len(), rules::PATHS);
     let net = tables::check_network(n, widths, guards, size)?;
@@ -62,9 +63,10 @@ pub fn improve(
     seed: u32,
     rounds: usize,
 ) -> Result<Arranged, Refusal>
-    ensures { left (planned_of result) (order.new, starts.new)
+    ensures leaves { left (planned_of result) (order.new, starts.new)
         ≡ improving n (lend widths.now guards.now) order.old
         starts.old seed rounds }
+    ensures short { IfErr result (λ r. r.short ≡ 0) }
 {
     let net = tables::check_packing(n, widths, guards, order, starts.len())?;
     check_rounds(rounds)?;
@@ -105,9 +107,10 @@ pub fn plan(
     seed: u32,
     rounds: usize,
 ) -> Result<Arranged, Refusal>
-    ensures { left (planned_of result) (order.new, starts.new)
+    ensures leaves { left (planned_of result) (order.new, starts.new)
         ≡ planning n (lend widths.now guards.now) order.old
         starts.old seed rounds }
+    ensures short { IfErr result (λ r. r.short ≡ 0) }
 {
     let sizes = tables::check_plan_sizes(order.len(), starts.len());
     let net = tables::check_network(n, widths, guards, sizes)?;
@@ -119,7 +122,8 @@ pub fn plan(
 // The floor of a list of paths, each two in conflict: their widths and the shortest walk through them. Every
 // valid plan reaches it.
 pub fn floor(n: usize, widths: &[u16], guards: &[u8], list: &[u8]) -> Result<usize, Refusal>
-    ensures { floored_of result ≡ flooring n (lend widths.now guards.now) list.now }
+    ensures answers { floored_of result ≡ flooring n (lend widths.now guards.now) list.now }
+    ensures short { IfErr result (λ r. r.short ≡ 0) }
 {
     let net = tables::check_network(n, widths, guards, Ok(()))?;
     cliques::check_list(&net, list)?;

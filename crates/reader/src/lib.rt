@@ -1,7 +1,7 @@
 // An inner crate, for `sheet`: a sheet read into tables of the right sizes.
 #![tactic(auto)]
 
-ghost use Rattle.std.specs.Prelude.{◌≡◌};
+ghost use Rattle.std.specs.Prelude.{◌≡◌, IfErr};
 ghost use Rattle.rules.specs.Tables.{cleared, lend, cleared_network};
 ghost use Rattle.rules.specs.Sheet.{sheet_from};
 ghost use Rattle.rules.specs.Calls.{left, read_outcome};
@@ -32,8 +32,9 @@ pub fn read_sized(
     starts: &mut [u16],
 ) -> Result<usize, Refusal>
     requires { Sized labels.old widths.old guards.old starts.old }
-    ensures { left (read_of result) (labels.new, lend widths.new guards.new, starts.new)
+    ensures reads { left (read_of result) (labels.new, lend widths.new guards.new, starts.new)
         ≡ read_outcome (sheet_from (cleared 1024 0) cleared_network (cleared 128 0) text.now) }
+    ensures short { IfErr result (λ r. r.short ≡ 0) }
 {
     clear(labels, widths, guards, starts);
     let read = whole_sheet::sheet_parts(text, labels, widths, guards, starts);

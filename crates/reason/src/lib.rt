@@ -92,14 +92,17 @@ fn down_of(plan: &Plan, k: usize) -> u16
 }
 
 // Writes the chain of a path of a plan that the tests have accepted, and says how far its last path can come
-// down.
+// down. It is called apart, so that its room takes no stack while the tests run.
+#[inline(never)]
 fn explain(plan: &Plan, path: usize, chain: &mut [u8]) -> Explained
     requires { (path < plan.now.net.n) × (length chain.old ≡ 128) }
     ensures { left (why_of (Ok result)) chain.new
         ≡ done_why (net_of (lent plan.now.net)) (at plan.now.starts.now) plan.now.net.n path chain.old }
 {
+    // No write to the chain can reach the copy, so that it is not read anew for each path.
+    let plan = *plan;
     let mut room = Room::EMPTY;
-    let files = Files::of(plan, &mut room);
+    let files = Files::of(&plan, &mut room);
     let length = write_chain(&files, path, chain);
     let last = usize::from(chain[length - 1]);
     let down = usize::from(down_of(files.plan, last));

@@ -24,7 +24,7 @@ swap_packable n lent order need after a b t la lb e =
     }
 
 -- one round: its swap is kept, or undone
-module _ (top : List ℕ → ℕ) (n : ℕ) (s : Standing) (order after : List ℕ) (x y a b h : ℕ) (ex : x ≡ draw s.state) (ey : y ≡ draw x) (ea : a ≡ drawn_place n x) (eb : b ≡ drawn_place n y) (la : a < length order) (lb : b < length order) (e : after ≡ swapped order a b) (eh : h ≡ top after) where
+module _ (top : List ℕ → ℕ) (n : ℕ) (s : Standing) (order after : List ℕ) (x y a b h : ℕ) (ex : x ≡ draw s.state) (ey : y ≡ draw x) (ea : a ≡ drawn_place n x) (eb : b ≡ drawn_place n y) (e : after ≡ swapped order a b) (eh : h ≡ top after) where
   after_is : after ≡ swapped order a b
   after_is = e
 
@@ -40,9 +40,9 @@ module _ (top : List ℕ → ℕ) (n : ℕ) (s : Standing) (order after : List �
   unfolding round
   round_kept l = rw (state_is, tried_is, ← eh, lt-ltb h s.highest l, add-one s.kept)
 
-  pub round_undone : (back : List ℕ) → back ≡ swapped after a b → s.highest ≤ h → run_of (record { state = y; highest = s.highest; kept = s.kept }) back ≡ round top n (run_of s order)
+  pub round_undone : (back : List ℕ) → a < length order → b < length order → back ≡ swapped after a b → s.highest ≤ h → run_of (record { state = y; highest = s.highest; kept = s.kept }) back ≡ round top n (run_of s order)
   unfolding round
-  round_undone back f l =
+  round_undone back la lb f l =
       rw (state_is, tried_is, ← eh, le-ltb h s.highest l, f, after_is, swapped_back order a b la lb)
 
 -- any number of rounds

@@ -2,7 +2,7 @@
 // fault. Each section has a loop of its own, since its lines ask for other tables and write other ones.
 #![tactic(auto)]
 
-ghost use Rattle.std.specs.Prelude.{◌≡◌, ◌+◌, ◌≤◌, length};
+ghost use Rattle.std.specs.Prelude.{◌≡◌, ◌+◌, ◌≤◌, length, IfErr};
 ghost use Rattle.rules.specs.Sheet.{lines, path_step, guard_step, start_step};
 ghost use Rattle.sections.specs.Says.{section_of};
 
@@ -17,7 +17,8 @@ pub fn paths<'a>(
     widths: &mut [u16],
 ) -> Result<&'a [u8], Refusal>
     requires { (n ≤ 128) × (length labels.old ≡ 1024) × (n ≤ length widths.old) }
-    ensures { section_of (labels.new, widths.new) result ≡ lines path_step 2 n 0 (labels.old, widths.old) text.now }
+    ensures section { section_of (labels.new, widths.new) result ≡ lines path_step 2 n 0 (labels.old, widths.old) text.now }
+    ensures short { IfErr result (λ r. r.short ≡ 0) }
 {
     let mut rest = text;
     for k in 0..n {
@@ -37,7 +38,8 @@ pub fn guards<'a>(
     guards: &mut [u8],
 ) -> Result<&'a [u8], Refusal>
     requires { (n ≤ 128) × (length labels.now ≡ 1024) × (length guards.old ≡ 16384) × (m ≤ 2000) }
-    ensures { section_of guards.new result ≡ lines (guard_step n labels.now) (n + 3) m 0 guards.old text.now }
+    ensures section { section_of guards.new result ≡ lines (guard_step n labels.now) (n + 3) m 0 guards.old text.now }
+    ensures short { IfErr result (λ r. r.short ≡ 0) }
 {
     let mut rest = text;
     for k in 0..m {
@@ -57,7 +59,8 @@ pub fn starts<'a>(
     starts: &mut [u16],
 ) -> Result<&'a [u8], Refusal>
     requires { (n ≤ 128) × (length labels.now ≡ 1024) × (n ≤ length starts.old) × (line ≤ 10000) }
-    ensures { section_of starts.new result ≡ lines (start_step labels.now) line n 0 starts.old text.now }
+    ensures section { section_of starts.new result ≡ lines (start_step labels.now) line n 0 starts.old text.now }
+    ensures short { IfErr result (λ r. r.short ≡ 0) }
 {
     let mut rest = text;
     for k in 0..n {

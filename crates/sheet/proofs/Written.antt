@@ -13,6 +13,7 @@ use Rattle.table_laws.specs.Faults.{or_clear, or_assoc}
 use Rattle.table_laws.specs.Chains.{lent_clear}
 use Rattle.table_laws.specs.Results.{clear_none}
 use Rattle.sheet_laws.specs.Sizes.{Sized, labels_clear}
+use Rattle.sheet_laws.specs.Shorts.{refuse_short, or_short, scan_short, label_short, lent_short}
 use Rattle.sheet_tables.specs.Tests.{plan_fault, table_fault}
 
 module _ (n : ℕ) (labels : List ℕ) (lent : Lent) (starts text : List ℕ) where
@@ -37,6 +38,13 @@ module _ (n : ℕ) (labels : List ℕ) (lent : Lent) (starts text : List ℕ) wh
   pub writing_is : unless (table_fault n labels lent starts or_else room) (refused_written text) (done_written (sheet_text n labels lent starts) text) ≡ writing n labels lent starts text
   unfolding writing
   writing_is = ap (λ (x : Fault). unless x (refused_written text) (done_written (sheet_text n labels lent starts) text)) (sym in_order)
+
+-- none of them says that slots are short
+pub table_short : (n : ℕ) (labels : List ℕ) (lent : Lent) (starts : List ℕ) → (table_fault n labels lent starts).short ≡ 0
+unfolding table_fault plan_fault
+table_short n labels lent starts =
+    or_short _ _ (lent_short n lent _ (label_short labels starts))
+    (or_short _ _ (scan_short 11 _ n) (or_short _ _ (scan_short 12 _ n) (or_short _ _ (refuse_short _ 1 0) (scan_short 7 _ n))))
 
 -- what tables that are not refused say
 pub table_clear : (n : ℕ) (labels widths guards starts : List ℕ) → no_fault ≡ table_fault n labels (lend widths guards) starts → (n ≤ 128) × Sized labels widths guards starts

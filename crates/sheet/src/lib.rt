@@ -1,8 +1,8 @@
 // The sheet's two public calls: `read`, and `write`. Nothing is asked of the caller.
 #![tactic(auto)]
 
-ghost use Rattle.std.specs.Prelude.{◌≡◌};
-ghost use Rattle.rules.specs.Tables.{lend};
+ghost use Rattle.std.specs.Prelude.{◌≡◌, IfErr};
+ghost use Rattle.rules.specs.Tables.{cleared, lend};
 ghost use Rattle.rules.specs.Calls.{left, reading, writing};
 ghost use Rattle.rules.specs.Told.{read_of, written_of};
 ghost use Rattle.sheet_laws.specs.Sizes.{Sized};
@@ -19,7 +19,12 @@ pub struct Tables {
 }
 
 impl Tables {
-    pub fn new() -> Tables {
+    // All cells are 0, those of the guards too.
+    #[tactic(auto, unfolding(rules::specs::Tables::cleared))]
+    pub fn new() -> Tables
+        ensures zeros { (result.labels ≡ cleared 1024 0) × (result.widths ≡ cleared 128 0)
+            × (result.guards ≡ cleared 16384 0) × (result.starts ≡ cleared 128 0) }
+    {
         Tables {
             labels: [0; rules::LABELS],
             widths: [0; rules::PATHS],
@@ -33,6 +38,7 @@ impl Tables {
         ensures sized { Sized self.old.labels self.old.widths self.old.guards self.old.starts }
         ensures reads { left (read_of result) (self.new.labels, lend self.new.widths self.new.guards, self.new.starts)
             ≡ reading text.now self.old.labels (lend self.old.widths self.old.guards) self.old.starts }
+        ensures short { IfErr result (λ r. r.short ≡ 0) }
     {
         read(
             text,
@@ -45,9 +51,10 @@ impl Tables {
 
     // Writes the sheet of n paths into a lent text, as `write` does.
     pub fn write(&self, n: usize, text: &mut [u8]) -> Result<usize, Refusal>
-        ensures { left (written_of result) text.new
+        ensures writes { left (written_of result) text.new
             ≡ writing n self.now.labels (lend self.now.widths self.now.guards)
             self.now.starts text.old }
+        ensures short { IfErr result (λ r. r.short ≡ 0) }
     {
         write(
             n,
@@ -68,8 +75,9 @@ pub fn read(
     guards: &mut [u8],
     starts: &mut [u16],
 ) -> Result<usize, Refusal>
-    ensures { left (read_of result) (labels.new, lend widths.new guards.new, starts.new)
+    ensures reads { left (read_of result) (labels.new, lend widths.new guards.new, starts.new)
         ≡ reading text.now labels.old (lend widths.old guards.old) starts.old }
+    ensures short { IfErr result (λ r. r.short ≡ 0) }
 {
     sheet_tables::check_sheet_sizes(labels, widths, guards, starts)?;
     reader::read_sized(text, labels, widths, guards, starts)
@@ -85,9 +93,10 @@ pub fn write(
     starts: &[u16],
     text: &mut [u8],
 ) -> Result<usize, Refusal>
-    ensures { left (written_of result) text.new
+    ensures writes { left (written_of result) text.new
         ≡ writing n labels.now (lend widths.now guards.now)
         starts.now text.old }
+    ensures short { IfErr result (λ r. r.short ≡ 0) }
 {
     sheet_tables::check_tables(n, labels, widths, guards, starts)?;
     let length = writer::sheet_length(n, labels, widths, guards, starts);

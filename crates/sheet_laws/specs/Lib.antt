@@ -7,3 +7,4 @@ pub mod Sizes
 pub mod Reads
 pub mod Grid
 pub mod Outcomes
+pub mod Shorts

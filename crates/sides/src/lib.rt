@@ -1,16 +1,16 @@
 // An inner crate: the two sides of a network, for the calls of planning. They are found in fixed room and
-// with no recursion.
+// with no recursion. The marks depend on the guards alone: what these functions promise holds for every
+// network of these guards.
 #![tactic(auto)]
 
 ghost use Rattle.std.specs.Prelude.{◌≡◌, cond, List, ℕ, ◌+◌, ◌≤◌, ◌<◌, eqb, length, position, take};
-ghost use Rattle.rules.specs.Tables.{at};
+ghost use Rattle.rules.specs.Tables.{at, cleared, Lent};
 ghost use Rattle.rules.specs.Scan.{found};
 ghost use Rattle.rules.specs.Plan.{net_of};
 ghost use Rattle.rules.specs.Sides.{marks, has_sides, two_sided, low_side};
 ghost use Rattle.plan_laws.specs.Alike.{AllMarked, alike};
 ghost use Rattle.plan_laws.specs.Spreading.{between, next_path, asked_mark, meeting, Met};
 ghost use Rattle.plan_laws.specs.Passes.{Passing, sides_of};
-ghost use Rattle.network.specs.Lent.{lent};
 ghost use Rattle.sides.specs.Split.{SplitIs};
 
 use network::Network;
@@ -74,19 +74,19 @@ fn meet_row(net: &Network, c: usize, asked: u8, mark: &mut [u8; PATHS])
 }
 
 // The mark of each path: 1 is low, 2 is high, and past the paths there is none. A path of mark s asks the other mark,
-// 3-s, of those in conflict with it, which a cell holds as 5-s.
-fn marks_of(net: &Network) -> [u8; PATHS]
-    ensures marks { result ≡ marks (net_of (lent net.now)) net.now.n }
-    ensures all_marked { AllMarked net.now.n result }
+// 3-s, of those in conflict with it, which a cell holds as 5-s. The marks go into a table that is lent: one that is
+// handed over would be copied.
+fn mark_sides(net: &Network, mark: &mut [u8; PATHS])
+    requires { mark.old ≡ cleared 128 0 }
+    ensures mark_after { (l : Lent) → l.guards ≡ net.now.guards.now → mark.new ≡ marks (net_of l) net.now.n }
+    ensures all_marked { AllMarked net.now.n mark.new }
 {
-    let mut mark = [0; PATHS];
     for _m in 0..net.n {
-        let c = next_path(net.n, &mark);
+        let c = next_path(net.n, mark);
         let s = asked_mark(mark[c]);
         mark[c] = s;
-        meet_row(net, c, 5 - s, &mut mark);
+        meet_row(net, c, 5 - s, mark);
     }
-    mark
 }
 
 // Whether some path is in conflict with path i and has its mark. The whole row is looked at, whatever n is, with no
@@ -105,9 +105,9 @@ fn row_alike(net: &Network, i: usize, mark: &[u8; PATHS]) -> bool
 
 // There are two sides exactly where no conflict joins two paths of one mark.
 fn are_sides(net: &Network, mark: &[u8; PATHS]) -> bool
-    requires marks { mark.now ≡ marks (net_of (lent net.now)) net.now.n }
-    requires all_marked { AllMarked net.now.n mark.now }
-    ensures { result ≡ has_sides (net_of (lent net.now)) net.now.n }
+    requires { AllMarked net.now.n mark.now }
+    ensures { (l : Lent) → l.guards ≡ net.now.guards.now
+        → mark.now ≡ marks (net_of l) net.now.n → result ≡ has_sides (net_of l) net.now.n }
 {
     !(0..net.n).any(|i| row_alike(net, i, mark))
 }
@@ -146,9 +146,11 @@ fn order_sides(n: usize, mark: &[u8; PATHS], order: &mut [u8]) -> usize
 // are all that is held for it: one byte a path, whatever the conflicts are.
 pub fn sided_order(net: &Network, order: &mut [u8]) -> Option<usize>
     requires { net.now.n ≤ length order.old }
-    ensures { SplitIs (net_of (lent net.now)) net.now.n order.old result order.new }
+    ensures { (l : Lent) → l.guards ≡ net.now.guards.now
+        → SplitIs (net_of l) net.now.n order.old result order.new }
 {
-    let mark = marks_of(net);
+    let mut mark = [0; PATHS];
+    mark_sides(net, &mut mark);
     if are_sides(net, &mark) {
         Some(order_sides(net.n, &mark, order))
     } else {

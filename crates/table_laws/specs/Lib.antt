@@ -8,5 +8,6 @@ pub mod Orders
 pub mod Marks
 pub mod Faults
 pub mod Results
+pub mod Shorts
 pub mod Limits
 pub mod Chains

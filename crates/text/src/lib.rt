@@ -142,7 +142,8 @@ pub fn last_field(text: &[u8]) -> Option<(usize, &[u8])>
     Some((v, word(end, b"\n")?))
 }
 
-// A section's word and its count.
+// A section's word and its count. It is inlined, since a caller would else keep room on its stack for each answer.
+#[inline(always)]
 #[tactic(auto, unfolding(rules::specs::Sheet::count_line, rules::specs::Text::then))]
 pub fn count_line<'a>(text: &'a [u8], w: &[u8]) -> Option<(usize, &'a [u8])>
     ensures value { parsed result ≡ count_line w.now text.now }

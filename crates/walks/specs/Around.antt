@@ -23,7 +23,7 @@ sum_back f (suc m) =
       sum_back f m,
     )
 
-sum_cut : (f : ℕ → ℕ) (m n : ℕ) → sum f (m + n) ≡ sum f m + sum (λ i. f (m + i)) n
+pub sum_cut : (f : ℕ → ℕ) (m n : ℕ) → sum f (m + n) ≡ sum f m + sum (λ i. f (m + i)) n
 unfolding sum
 sum_cut f m zero = omega (arith, ap (sum f) (add-zero m))
 sum_cut f m (suc n) = let e : m + suc n ≡ suc (m + n) = omega arith in rw e (omega (arith, sum_cut f m n))

@@ -9,16 +9,19 @@ use Rattle.std.proofs.lemmas.Nat.{pow_pos}
 use Rattle.rules.specs.Tables.{at}
 use Rattle.rules.specs.Scan.{least}
 use Rattle.table_laws.specs.Count.{each_suc}
-use Rattle.table_laws.specs.Scans.{least_start}
+use Rattle.table_laws.specs.Scans.{least_start, least_same}
 use Rattle.table_laws.specs.Updates.{Updated, update_more}
-use Rattle.walks.specs.Sets.{alone, has, alone_le, has_none, has_past}
+use Rattle.walks.specs.Sets.{alone, has, alone_le, has_none}
 use Rattle.walks.specs.Square.{row_at, guard_in}
-use Rattle.walks.specs.Walked.{Least, least_outside, least_alone, least_onward}
+use Rattle.walks.specs.Walked.{Least, least_outside, least_past, least_alone, least_onward}
 
 -- the least way on from a position with these guards, through a set with these least walks: one guard, and the walk from
 -- there
 abbrev pub onward : List ℕ → List ℕ → ℕ
 onward guards walks = least 255 (λ i. at guards i + at walks i) 8
+
+pub onward_row : (guards walks : List ℕ) (guard : ℕ → ℕ) → ((i : ℕ) → i < 8 → at guards i ≡ guard i) → onward guards walks ≡ least 255 (λ i. guard i + at walks i) 8
+onward_row guards walks guard row = least_same 255 (λ i. at guards i + at walks i) (λ i. guard i + at walks i) 8 (λ i h. rw (row i h))
 
 -- for the code: one step of a least, of numbers that stop at 255
 pub least_none : (f : ℕ → ℕ) → least 255 f 0 ≡ 255
@@ -68,31 +71,29 @@ module _ (square : List (List ℕ)) (s : ℕ) where
     row = rw (get_or-set_same walks s (set (row_at walks s) j v) [] room) (update_more _ _ _ j v f.row (omega (arith, length-replicate {A = ℕ} 8 255)) (e ∙ same_walks before walks j f.others));
   }
 
-module _ (square : List (List ℕ)) (k : ℕ) where
+module _ (guard : ℕ → ℕ → ℕ) (k : ℕ) where
   -- the sets below s are filled, and no other
   pub record Filled (s : ℕ) (walks : List (List ℕ)) : Type 0 where
-    pub done : (t i : ℕ) → t < s → i < 8 → Least (guard_in square) k t i (at (row_at walks t) i)
+    pub done : (t i : ℕ) → t < s → i < 8 → Least guard k t i (at (row_at walks t) i)
     pub left : Blank s walks
 
   -- at first there is the empty set alone, which has no walk
   pub filled_none : (walks : List (List ℕ)) → Blank 0 walks → 0 < length walks → Filled 1 walks
   filled_none walks b room = record {
-    done = λ t i h g. let z : t ≡ 0 = omega arith in rw (z, b.rows 0 (omega arith) room, get_or-replicate {A = ℕ} 8 i 255 0 g) (least_outside (guard_in square) k 0 i (has_none i));
+    done = λ t i h g. let z : t ≡ 0 = omega arith in rw (z, b.rows 0 (omega arith) room, get_or-replicate {A = ℕ} 8 i 255 0 g) (least_outside guard k 0 i (has_none i));
     left = record { rows = λ t h l. b.rows t (omega arith) l };
   }
 
-  -- one set more: its positions are among the first k
-  pub filled_more : (s : ℕ) (before walks : List (List ℕ)) → Filled s before → k ≤ 8 → s < alone k → Filling square s k before walks → Filled (s + 1) walks
-  filled_more s before walks f few small u = rw add-one record {
+  -- one set more, by a square that has the guards of the first k positions
+  pub filled_more : (s : ℕ) (square before walks : List (List ℕ)) → ((j i : ℕ) → j < k → i < 8 → guard_in square j i ≡ guard j i) → Filled s before → k ≤ 8 → Filling square s k before walks
+      → Filled (s + 1) walks
+  filled_more s square before walks same f few u = rw add-one record {
     done = λ t i h g. each_suc (λ t. Least guard k t i (at (row_at walks t) i)) s
         (λ t h. rw (u.others t (λ z. omega arith)) (f.done t i h g))
         (own i g (dec_lt i k)) t h;
     left = record { rows = λ t h l. u.others t (λ z. omega arith) ∙ f.left.rows t (omega arith) (omega (arith, u.long)) };
   }
     where
-      guard : ℕ → ℕ → ℕ
-      guard = guard_in square
-
       rest : ℕ → ℕ
       rest j = s - alone j
 
@@ -103,8 +104,9 @@ module _ (square : List (List ℕ)) (k : ℕ) where
       inside j l true e false z =
           let pos = pow_pos j in
           let ne = eqb-false (rest j) 0 z in
-          least_onward guard k s j (onward (row_at square j) (row_at before (rest j))) (at (row_at before (rest j))) e (omega arith) (λ i h. f.done (rest j) i (omega arith) h) few l refl
+          least_onward guard k s j (onward (row_at square j) (row_at before (rest j))) (at (row_at before (rest j))) e (omega arith) (λ i h. f.done (rest j) i (omega arith) h) few l
+          (onward_row (row_at square j) (row_at before (rest j)) (guard j) (λ i h. same j i l h))
 
       own : (i : ℕ) → i < 8 → Dec (i < k) → Least guard k s i (at (row_at walks s) i)
       own i g (yes l) = rw (u.row.done i l) (unfold least_from in inside i l (has s i) refl (eqb (rest i) 0) refl)
-      own i g (no l) = rw (u.row.left i (omega arith), get_or-replicate {A = ℕ} 8 i 255 0 g) (least_outside guard k s i (has_past s k i small (omega arith)))
+      own i g (no l) = rw (u.row.left i (omega arith), get_or-replicate {A = ℕ} 8 i 255 0 g) (least_past guard k s i (omega arith))

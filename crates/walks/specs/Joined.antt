@@ -3,12 +3,12 @@
 use Prim.Native.Nat.{ℕ, suc, ◌+◌, ◌-◌, ◌/◌, ◌≤◌, ◌<◌}
 use Rattle.std.specs.Prelude.{◌≡◌, ◌≢◌, ◌⊎◌, Bool, true, false, cond, List, eqb}
 use Rattle.std.proofs.Math.Path.{refl}
-use Rattle.std.proofs.Common.{sym, ap, ◌∙◌, inl, inr, true≢false, eqb-true}
+use Rattle.std.proofs.Common.{sym, ap, ◌∙◌, add-one, inl, inr, true≢false, eqb-true}
 use native.Mathlib.Omega.{arith}
 use Rattle.std.proofs.Math.Decide.{dec_lt}
 use Rattle.std.proofs.lemmas.Bool.{eqb-false}
 use Rattle.rules.specs.Tables.{at}
-use Rattle.rules.specs.Scan.{least}
+use Rattle.rules.specs.Scan.{least, sum}
 use Rattle.rules.specs.Packing.{Order}
 use Rattle.rules.specs.Floor.{walk_length, shortest}
 use Rattle.table_laws.specs.Scans.{least_le, least_at}
@@ -16,10 +16,10 @@ use Rattle.table_laws.specs.Orders.{place, own_order}
 use Rattle.std.proofs.Math.Nat.{pow-suc}
 use Rattle.std.proofs.lemmas.Nat.{pow_pos}
 use Rattle.walks.specs.Sets.{alone, has, members, alone_le, has_added, has_other, has_past, has_rest, members_all}
-use Rattle.walks.specs.Square.{row_at, guard_in, Walkable}
+use Rattle.walks.specs.Square.{row_at, Walkable}
 use Rattle.walks.specs.Walked.{steps, Through, Least, through_at, through_own, least_alone, least_onward, through_shortest}
-use Rattle.walks.specs.Filled.{onward, Filled}
-use Rattle.walks.specs.Around.{back, on, around, members_around, back_order, on_order, steps_around, around_members, around_steps, around_order}
+use Rattle.walks.specs.Filled.{onward, onward_row, Filled}
+use Rattle.walks.specs.Around.{sum_cut, back, on, around, members_around, back_order, on_order, steps_around, around_members, around_steps, around_order}
 
 -- the way on from the last position, which has these guards, through a set of those before it: none where the set is empty
 unfoldable pub away : List ℕ → List (List ℕ) → ℕ → ℕ
@@ -50,13 +50,8 @@ least_wider guard k s j v small h = record {
   some = λ l. let x = h.some l in (x.0, x.1, wider guard k s j x.0 x.1 x.2, x.3);
 }
 
-module _ (square walks : List (List ℕ)) (last : ℕ) (good : Walkable (guard_in square) (suc last)) (filled : (t i : ℕ) → t < alone last → i < 8 → Least (guard_in square) last t i (at (row_at walks t) i)) where
-  abbrev guard : ℕ → ℕ → ℕ
-  guard = guard_in square
-
-  abbrev guards : List ℕ
-  guards = row_at square last
-
+module _ (guard : ℕ → ℕ → ℕ) (last : ℕ) (good : Walkable guard (suc last)) (few : last < 8) (walks : List (List ℕ))
+    (filled : (t i : ℕ) → t < alone last → i < 8 → Least guard last t i (at (row_at walks t) i)) (guards : List ℕ) (row : (i : ℕ) → i < 8 → at guards i ≡ guard last i) where
   -- the sets of the positions before the last: half of all, as those are once without it and once with it
   abbrev half : ℕ
   half = alone last
@@ -77,7 +72,8 @@ module _ (square walks : List (List ℕ)) (last : ℕ) (good : Walkable (guard_i
       go false e =
           let ne = eqb-false s 0 e in
           least_onward guard (suc last) (s + half) last (onward guards (row_at walks s)) (at (row_at walks s)) (has_added s last (has_past s last last l (omega arith))) (omega arith)
-          (λ i h. rw less (least_wider guard last s i _ l (filled s i l h))) good.few (omega arith) refl
+          (λ i h. rw less (least_wider guard last s i _ l (filled s i l h))) (omega arith) (omega arith)
+          (onward_row guards (row_at walks s) (guard last) row)
 
   abbrev both : ℕ → ℕ
   both s = away guards walks s + away guards walks (half - 1 - s)
@@ -184,9 +180,20 @@ module _ (square walks : List (List ℕ)) (last : ℕ) (good : Walkable (guard_i
           through_shortest guard (suc last) (around x.0 x.1 y.0 0) r (around x.0 x.1 y.0) (x.1 + y.1) (through s l x.0 y.0 x.1 y.1 x.2 y.2)
           (joined s l x.0 y.0 x.1 y.1 x.2 y.2 r (omega (arith, x.3, y.3))) below
 
--- for the code, which has the number of positions, and all sets filled
-pub shortest_joined : (square walks : List (List ℕ)) (k s sets r : ℕ) → Walkable (guard_in square) k → Filled square (k - 1) s walks → sets ≤ s → sets ≡ alone (k - 1)
-    → r ≡ least_joined (row_at square (k - 1)) walks sets ((sets + 1) / 2) → r ≡ shortest (guard_in square) k
-shortest_joined square walks k s sets r good filled l e h =
-    let last : suc (k - 1) ≡ k = omega (arith, good.some) in
-    rw last at (joined_shortest square walks (k - 1) (rw (← last) at good) (λ t i g b. filled.done t i (omega arith) b) r (rw e at h))
+-- where positions can be walked, the first of them can
+walkable_first : (guard : ℕ → ℕ → ℕ) (last k : ℕ) → last < k → Walkable guard k → Walkable guard (suc last)
+unfolding walk_length
+walkable_first guard last k l good =
+    let f : ℕ → ℕ = λ i. guard i (suc i) in
+    let e : last + (k - 1 - last) ≡ k - 1 = omega arith in
+    let q : suc last - 1 ≡ last = omega arith in
+    record {
+      mirror = λ i j h g. good.mirror i j (omega arith) (omega arith);
+      small = rw q (omega (arith, good.small, ap (sum f) e, sum_cut f last (k - 1 - last)));
+    }
+
+-- for the code, which has more positions, and all sets filled
+pub shortest_joined : (guard : ℕ → ℕ → ℕ) (guards : List ℕ) (walks : List (List ℕ)) (last k s sets r : ℕ) → Walkable guard k → last < k → last < 8 → Filled guard last s walks
+    → ((i : ℕ) → i < 8 → at guards i ≡ guard last i) → sets ≤ s → sets ≡ alone last → r ≡ least_joined guards walks sets ((sets + 1) / 2) → r ≡ shortest guard (last + 1)
+shortest_joined guard guards walks last k s sets r good inside few filled row l e h =
+    rw add-one (joined_shortest guard last (walkable_first guard last k inside good) few walks (λ t i g b. filled.done t i (omega arith) b) guards row r (rw e at h))

@@ -14,10 +14,8 @@ row_at table i = get_or table i []
 abbrev pub guard_in : List (List ℕ) → ℕ → ℕ → ℕ
 guard_in square i j = at (row_at square i) j
 
--- one to eight positions, whose guards are the same both ways, and a walk through which fits a byte that has 255 for none
+-- the guards of k positions are the same both ways, and a walk through them fits a byte that has 255 for none
 pub record Walkable (guard : ℕ → ℕ → ℕ) (k : ℕ) : Type 0 where
-  pub some : 1 ≤ k
-  pub few : k ≤ 8
   pub mirror : (i j : ℕ) → i < k → j < k → guard i j ≡ guard j i
   pub small : walk_length guard k (λ i. i) < 255
 
@@ -38,8 +36,6 @@ module _ (n : ℕ) (lent : Lent) (list : List ℕ) (f : Floorable n lent list) (
   pub walkable : Walkable (guard_in square) (length list)
   unfolding walk_length
   walkable = record {
-    some = f.some;
-    few = f.few;
     mirror = λ i j h l. (q.row i h).guard j l ∙ f.network.mirrored (at list i) (at list j) (f.clique.inside i h) (f.clique.inside j l) ∙ sym ((q.row j l).guard i h);
     small = omega (arith, f.few, sum_le (λ i. guard_in square i (suc i)) 32 (length list - 1) (λ i l. near i (suc i) (omega arith) (omega arith)));
   }

@@ -23,23 +23,37 @@ use rules::{LIST_MOST, NO_CONFLICT};
 const NO_WALK: u8 = 255;
 
 // The guards of a path with each path of a list, 255 past it.
-fn row_of(net: &Network, list: &[u8], from: usize) -> [u8; LIST_MOST]
-    requires { (from < net.now.n) × (length list.now ≤ 8)
-        × ((i : ℕ) → i < length list.now → at list.now i < net.now.n) }
-    ensures { Row net.now.guards.now list.now from result }
+fn row_of(guards: &[u8], list: &[u8], from: usize) -> [u8; LIST_MOST]
+    requires { (length guards.now ≡ 16384) × ((length list.now ≤ 8) × ((from < 128)
+        × ((i : ℕ) → i < length list.now → at list.now i < 128))) }
+    ensures { Row guards.now list.now from result }
 {
     let mut row = [NO_CONFLICT; LIST_MOST];
     for (q, to) in list.iter().enumerate() {
-        row[q] = net.guard(from, usize::from(*to));
+        row[q] = guards[rules::PATHS * from + usize::from(*to)];
     }
     row
 }
 
-// The guards of a list, by position.
-#[derive(Drop)]
+// The guards of the list, by position.
+pub fn square_of(guards: &[u8], list: &[u8]) -> [[u8; LIST_MOST]; LIST_MOST]
+    requires { (length guards.now ≡ 16384) × ((length list.now ≤ 8)
+        × ((i : ℕ) → i < length list.now → at list.now i < 128)) }
+    ensures { SquareOf guards.now list.now result }
+{
+    let mut square = [[NO_CONFLICT; LIST_MOST]; LIST_MOST];
+    for (p, from) in list.iter().enumerate() {
+        square[p] = row_of(guards, list, usize::from(*from));
+    }
+    square
+}
+
+// The guards of one to eight positions that can be walked.
+#[derive(Clone, Copy)]
 pub struct Square {
     pub guards: [[u8; LIST_MOST]; LIST_MOST],
     pub size: usize,
+    ghost sized: { (1 ≤ size) × (size ≤ 8) },
     ghost walkable: { Walkable (guard_in guards) size } by { Prim.hlevel props },
 }
 
@@ -49,12 +63,8 @@ impl Square {
         ensures size { result.size ≡ length list.now }
         ensures guards { SquareOf net.now.guards.now list.now result.guards }
     {
-        let mut guards = [[NO_CONFLICT; LIST_MOST]; LIST_MOST];
-        for (p, from) in list.iter().enumerate() {
-            guards[p] = row_of(net, list, usize::from(*from));
-        }
         Square {
-            guards,
+            guards: square_of(net.guards, list),
             size: list.len(),
         }
     }
@@ -71,28 +81,38 @@ impl Square {
         }
     }
 
-    // The same, in a blank table with room for all sets of the positions before the last: they are filled one after the
-    // other.
+    // The same, in a blank table with room for all sets of the positions before the last.
     fn shortest_in(&self, walks: &mut [[u8; LIST_MOST]]) -> u8
         requires room { 2 ^ (self.now.size - 1) ≤ length walks.old }
         requires blank { Blank 0 walks.old }
         ensures { result ≡ shortest (guard_in self.now.guards) self.now.size }
     {
-        let half = 1 << (self.size - 1);
-        for s in 1..half {
-            self.fill_set(walks, s);
-        }
-        self.least_joined(walks, half)
+        self.shortest_to(self.size - 1, walks)
     }
 
-    // Fills the row of the set s, when all sets of smaller numbers are filled: every set that s is with one position less
-    // is among them. It is filled in its place: a row that is made elsewhere is stored by bytes and then read whole,
-    // which takes longer.
-    fn fill_set(&self, walks: &mut [[u8; LIST_MOST]], s: usize)
-        requires { (s < length walks.old) × (row_at walks.old s ≡ replicate 8 255) }
-        ensures { Filling self.now.guards s (self.now.size - 1) walks.old walks.new }
+    // The shortest walk through the positions up to this last one, likewise: the sets of those before it are filled one
+    // after the other.
+    fn shortest_to(&self, last: usize, walks: &mut [[u8; LIST_MOST]]) -> u8
+        requires inside { last < self.now.size }
+        requires room { 2 ^ (self.now.size - 1) ≤ length walks.old }
+        requires blank { Blank 0 walks.old }
+        ensures { result ≡ shortest (guard_in self.now.guards) (last + 1) }
     {
-        for j in 0..self.size - 1 {
+        let half = 1 << last;
+        for s in 1..half {
+            self.fill_set(last, walks, s);
+        }
+        self.least_joined(last, walks, half)
+    }
+
+    // Fills the row of the set s of those before the last, when all sets of smaller numbers are filled: every set that
+    // s is with one position less is among them. It is filled in its place: a row that is made elsewhere is stored by
+    // bytes and then read whole, which takes longer.
+    fn fill_set(&self, last: usize, walks: &mut [[u8; LIST_MOST]], s: usize)
+        requires { (last < 8) × (s < length walks.old) × (row_at walks.old s ≡ replicate 8 255) }
+        ensures { Filling self.now.guards s last walks.old walks.new }
+    {
+        for j in 0..last {
             walks[s][j] = self.least_from(walks, s, j);
         }
     }
@@ -117,12 +137,11 @@ impl Square {
     // of them, which is half - 1 - s. Of the two one is below the middle, and which of them comes first makes no
     // difference, so that s goes no further.
     #[tactic(auto, using(crate::specs::Filled::least_steps), unfolding(crate::specs::Joined::least_joined))]
-    fn least_joined(&self, walks: &[[u8; LIST_MOST]], half: usize) -> u8
-        requires { (1 ≤ half) × (half ≤ length walks.now) }
-        ensures { result
-            ≡ least_joined (row_at self.now.guards (self.now.size - 1)) walks.now half ((half + 1) / 2) }
+    fn least_joined(&self, last: usize, walks: &[[u8; LIST_MOST]], half: usize) -> u8
+        requires { (last < 8) × (1 ≤ half) × (half ≤ length walks.now) }
+        ensures { result ≡ least_joined (row_at self.now.guards last) walks.now half ((half + 1) / 2) }
     {
-        let guards = &self.guards[self.size - 1];
+        let guards = &self.guards[last];
         let mut best = NO_WALK;
         for s in 0..half.div_ceil(2) {
             let walk = away(guards, walks, s).saturating_add(away(guards, walks, half - 1 - s));

@@ -1,7 +1,7 @@
 // An inner crate, for `reader`: the sections of a sheet in their fixed order, each after its count.
 #![tactic(auto)]
 
-ghost use Rattle.std.specs.Prelude.{◌≡◌, ◌≤◌, [], length};
+ghost use Rattle.std.specs.Prelude.{◌≡◌, ◌≤◌, [], length, IfErr};
 ghost use Rattle.rules.specs.Tables.{lend};
 ghost use Rattle.rules.specs.Sheet.{starts_part, guards_part, sheet_from};
 ghost use Rattle.sections.specs.Says.{section_by, ended_of};
@@ -18,7 +18,8 @@ fn starts_part(
     table: &mut [u16],
 ) -> Result<(), Refusal>
     requires { (n ≤ 128) × (length labels.now ≡ 1024) × (n ≤ length table.old) × (line ≤ 9000) }
-    ensures { ended_of table.new result ≡ starts_part n line labels.now table.old text.now }
+    ensures section { ended_of table.new result ≡ starts_part n line labels.now table.old text.now }
+    ensures short { IfErr result (λ r. r.short ≡ 0) }
 {
     if text.is_empty() {
         return Ok(());
@@ -48,7 +49,8 @@ fn guards_part(
 ) -> Result<(), Refusal>
     requires { (n ≤ 128) × (length labels.now ≡ 1024) × (length square.old ≡ 16384)
         × (n ≤ length table.old) }
-    ensures { ended_of (square.new, table.new) result ≡ guards_part n labels.now square.old table.old text.now }
+    ensures section { ended_of (square.new, table.new) result ≡ guards_part n labels.now square.old table.old text.now }
+    ensures short { IfErr result (λ r. r.short ≡ 0) }
 {
     let (m, rest) = text::count_line(text, text::GUARDS_WORD).ok_or(Refusal::at(
         Cause::Form,
@@ -72,8 +74,9 @@ pub fn sheet_parts(
 ) -> Result<usize, Refusal>
     requires { (length labels.old ≡ 1024) × (length widths.old ≡ 128) × (length square.old ≡ 16384)
         × (length table.old ≡ 128) }
-    ensures { section_by (λ n. (n, labels.new, lend widths.new square.new, table.new)) (λ n. []) result
+    ensures sheet { section_by (λ n. (n, labels.new, lend widths.new square.new, table.new)) (λ n. []) result
         ≡ sheet_from labels.old (lend widths.old square.old) table.old text.now }
+    ensures short { IfErr result (λ r. r.short ≡ 0) }
 {
     let (n, rest) = text::count_line(text, text::PATHS_WORD).ok_or(Refusal::at(Cause::Form, 1))?;
     if !(1..=rules::PATHS).contains(&n) {

@@ -1,4 +1,4 @@
-use Rattle.std.proofs.Common.{◌≡◌, List, ℕ, sym, rules, arith, replicate}
+use Rattle.std.proofs.Common.{◌≡◌, List, ℕ, sym, arith, replicate}
 use lib.Seq.{length-take-le}
 use Rattle.rules.specs.declared.SheetWritten.{SheetWritten}
 use Rattle.rules.specs.Tables.{lend}
@@ -12,14 +12,14 @@ use Rattle.answers.proofs.order_text.Goals.{After-order_write-written}
 
 -- the call of the writing, by the anchor as it is counted
 wrote : (c : After-order_write-written) → ◌≡◌ {A = Left SheetWritten (List ℕ)} (left (written_of c.order_write-written.result) c.order_write-written.new.text)
-    (order_writing (lowered c.args.anchor) c.args.n c.args.t.now.labels (lend c.args.t.now.widths c.args.t.now.guards) c.args.t.now.starts (replicate 2314 0))
-wrote c = rw (lowered_on c.args.anchor c.requires.0 c.uncounted.result c.uncounted.ensures) at c.order_write-written.ensures
+    (order_writing (lowered c.args.anchor) c.args.n c.args.labels.now (lend c.args.widths.now c.args.guards.now) c.args.starts.now (replicate 2314 0))
+wrote c = rw (lowered_on c.args.anchor c.requires.0 c.uncounted.result c.uncounted.ensures) at c.order_write-written.ensures.writes
 
 pub put_refused-requires : goal.put_refused-requires
-put_refused-requires c = (search rules, omega arith, plan_small _ _ _ _ c.in-Err.ensures, c.requires.1)
+put_refused-requires c = (c.requires.1, omega arith, rw c.number.ensures (plan_small _ _ _ _ c.in-Err.ensures), c.requires.2)
 
 pub returns-in-Err-clause-wrote : goal.returns-in-Err-clause-wrote
-returns-in-Err-clause-wrote c = rw (order_refused _ _ _ _ c.in-Err.ensures _ (lowered c.args.anchor)) at c.put_refused.ensures.wrote
+returns-in-Err-clause-wrote c = rw (c.number.ensures, order_refused _ _ _ _ c.in-Err.ensures _ (lowered c.args.anchor)) at c.put_refused.ensures.wrote
 
 pub slice_bounds-sheet-end : goal.slice_bounds-sheet-end
 slice_bounds-sheet-end c = rw c.unwrap_or.ensures (order_within _ _ _ _ _ _ _ (wrote (goal.at.slice_bounds-sheet-end c).After-order_write-written))

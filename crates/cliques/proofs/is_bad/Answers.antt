@@ -14,5 +14,5 @@ pub returns-else-net-path : goal.returns-else-net-path
 returns-else-net-path c =
     let net = net_of (lent c.args.net.now) in
     let list = c.args.list.now in
-    any_found _ _ _ _ (λ i. eqb (at list i) (at list c.args.k) || not (in_conflict net (at list i) (at list c.args.k))) c.any.ensures.ran (λ x b q h. (search (rules, tests), grind (arith, tests, get_or_read)))
-    ∙ or_no (lt-leb c.args.net.now.n (at list c.args.k) (omega (arith, c.from-path.ensures, c.if-net-path.false)))
+    λ l q. rw q (any_found _ _ _ _ (λ i. eqb (at list i) (at list c.args.k) || not (in_conflict net (at list i) (at list c.args.k))) c.any.ensures.ran (λ x b q h. (search (rules, tests), grind (arith, tests, get_or_read)))
+    ∙ or_no (lt-leb c.args.net.now.n (at list c.args.k) (omega (arith, c.from-path.ensures, c.if-net-path.false))))

@@ -5,4 +5,4 @@ pub returns-clause-wrote : goal.returns-clause-wrote
 unfolding refusal_text
 returns-clause-wrote g c =
     let laws = g.met.S.Sink.laws in
-    laws.both (rw c.number.ensures at c.put_part.ensures.wrote) (laws.both c.put_part-2.ensures.wrote c.put_word.ensures)
+    laws.both c.put_part.ensures.wrote (laws.both c.put_part-2.ensures.wrote c.put_word.ensures)

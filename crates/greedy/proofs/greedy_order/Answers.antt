@@ -1,7 +1,6 @@
 use mathlib.Core.Path.{refl}
 use native.Mathlib.Omega.{arith}
 use lib.ListN.{replicate}
-use Rattle.std.proofs.lemmas.List.{get_or-replicate}
 use Rattle.network.specs.Lent.{lent}
 use Rattle.table_laws.specs.Updates.{update_set}
 use Rattle.plan_laws.specs.Growing.{growing_first, growing_bound, growing_more}
@@ -10,7 +9,7 @@ use Rattle.greedy.proofs.greedy_order.Goals as goal
 pub loop-m-init : goal.loop-m-init
 loop-m-init c =
     let w = c.args.net.now.within in
-    (refl, λ table l. growing_first _ (lent c.args.net.now) _ table w c.requires l (replicate 128 1) (λ k g. get_or-replicate 128 k 1 0 (omega (arith, g, w.few))))
+    (c.lowest_starts.ensures.long, λ table l. growing_first _ (lent c.args.net.now) _ table w c.requires l _ c.lowest_starts.ensures.done)
 
 -- over any table: the sums fit
 pub place-requires : goal.place-requires

@@ -5,10 +5,11 @@ use Rattle.rules.specs.Numbers.{no_fault}
 use Rattle.rules.specs.Calls.{order_writing}
 use Rattle.sheet_laws.specs.Grid.{lowered}
 use Rattle.sheet_laws.specs.Outcomes.{room_is, room_clear, written_err, written_ok}
+use Rattle.sheet_laws.specs.Shorts.{refuse_short, refused_short, handed_short}
 use Rattle.table_laws.specs.Results.{clear_none, err_stop, ok_on}
 use Rattle.order_writer.specs.Ready.{Ready}
 use Rattle.order.specs.Tests.{table_fault}
-use Rattle.order.proofs.Outcomes.{table_passed, table_ready, writing_is}
+use Rattle.order.proofs.Outcomes.{table_passed, table_short, table_ready, writing_is}
 use Rattle.order.proofs.order_write.Goals as goal
 use Rattle.order.proofs.order_write.Goals.{After-counted-low}
 
@@ -23,10 +24,14 @@ the_call c =
 ready : (c : After-counted-low) → Ready c.counted-low.result c.args.n c.args.labels.now c.args.widths.now c.args.starts.now
 ready c = table_ready _ _ _ _ _ _ c.counted-low.ensures.1 c.counted-low.ensures.2 (clear_none (tested c))
 
-pub returns-in_err-check_tables : goal.returns-in_err-check_tables
-returns-in_err-check_tables c =
+pub returns-in_err-check_tables-clause-writes : goal.returns-in_err-check_tables-clause-writes
+returns-in_err-check_tables-clause-writes c =
     let p = err_from_is_err_and c.from_residual.result c.from_residual.ensures.1 in
     rw (p.1, p.2) (written_err _ _ _ (err_stop _ _ (rw (to_z-of_z c.ranges.anchor) at c.in_err-check_tables.ensures)) ∙ writing_is _ _ _ _ _ _)
+
+pub returns-in_err-check_tables-clause-short : goal.returns-in_err-check_tables-clause-short
+returns-in_err-check_tables-clause-short c =
+    handed_short _ _ c.from_residual.ensures.1 (refused_short _ c.in_err-check_tables.ensures (table_short _ _ _ _ _))
 
 pub counted-low-requires : goal.counted-low-requires
 counted-low-requires c = (table_passed _ _ _ _ _ (clear_none c.in_ok-check_tables.ensures)).in_range
@@ -34,19 +39,23 @@ counted-low-requires c = (table_passed _ _ _ _ _ (clear_none c.in_ok-check_table
 pub order_length-length-requires : goal.order_length-length-requires
 order_length-length-requires c = ready (goal.at.order_length-length-requires c).After-counted-low
 
-pub returns-in_err-refuse_if : goal.returns-in_err-refuse_if
-returns-in_err-refuse_if c =
+pub returns-in_err-refuse_if-clause-writes : goal.returns-in_err-refuse_if-clause-writes
+returns-in_err-refuse_if-clause-writes c =
     let p = err_from_is_err_and c.from_residual-in_err-refuse_if.result c.from_residual-in_err-refuse_if.ensures.1 in
-    let d = (goal.at.returns-in_err-refuse_if c).After-counted-low in
+    let d = (goal.at.returns-in_err-refuse_if-clause-writes c).After-counted-low in
     rw (p.1, p.2)
     (written_err _ _ _ (ok_on _ (tested d) (c.in_err-refuse_if.ensures ∙ room_is _ _ c.order_length-length.ensures)) ∙ writing_is _ _ _ _ _ _ ∙ the_call d)
+
+pub returns-in_err-refuse_if-clause-short : goal.returns-in_err-refuse_if-clause-short
+returns-in_err-refuse_if-clause-short c =
+    handed_short _ _ c.from_residual-in_err-refuse_if.ensures.1 (refused_short _ c.in_err-refuse_if.ensures (refuse_short _ 16 0))
 
 pub put_order-requires : goal.put_order-requires
 put_order-requires c =
     (ready (goal.at.put_order-requires c).After-counted-low, room_clear _ _ (c.in_ok-refuse_if.ensures ∙ room_is _ _ c.order_length-length.ensures))
 
-pub returns : goal.returns
-returns c =
+pub returns-clause-writes : goal.returns-clause-writes
+returns-clause-writes c =
     let room = c.in_ok-refuse_if.ensures ∙ room_is _ _ c.order_length-length.ensures in
-    let d = (goal.at.returns c).After-counted-low in
+    let d = (goal.at.returns-clause-writes c).After-counted-low in
     written_ok _ _ (ok_on _ (tested d) room) (room_clear _ _ room) _ _ c.put_order.ensures ∙ writing_is _ _ _ _ _ _ ∙ the_call d

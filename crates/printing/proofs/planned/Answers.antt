@@ -26,14 +26,14 @@ planned_done (Err e) = refl
 pub returns-clause-out_after : goal.returns-clause-out_after
 returns-clause-out_after c =
     rw (c.unwrap_or-out.ensures, written_done c.write.result) (
-      prints_sheet c.args.n c.args.tables.now.labels (lend c.args.tables.now.widths c.args.tables.now.guards) c.args.tables.now.starts _ c.plan-done.new.order c.plan-done.new.starts c.args.out.now c.write.new.text (planned_of c.plan-done.result) (written_of c.write.result) (blank 128 0) c.requires.1 c.plan-done.ensures c.write.ensures,
-      prints_within c.args.n c.args.tables.now.labels (lend c.args.tables.now.widths c.args.tables.now.guards) c.plan-done.new.starts c.args.out.now c.write.new.text (written_of c.write.result) c.requires.1 c.write.ensures,
+      prints_sheet c.args.n c.args.labels.now (lend c.args.widths.now c.args.guards.now) c.args.starts.now _ c.plan-done.new.order c.plan-done.new.starts c.args.out.now c.write.new.text (planned_of c.plan-done.result) (written_of c.write.result) (blank 128 0) c.requires.2 c.plan-done.ensures.leaves c.write.ensures.writes,
+      prints_within c.args.n c.args.labels.now (lend c.args.widths.now c.args.guards.now) c.plan-done.new.starts c.args.out.now c.write.new.text (written_of c.write.result) c.requires.2 c.write.ensures.writes,
     )
 
 pub returns-clause-line_after : goal.returns-clause-line_after
 returns-clause-line_after c =
-    let lent = lend c.args.tables.now.widths c.args.tables.now.guards in
-    let z = note_of_lem c.args.n c.args.tables.now.labels lent c.args.tables.now.starts _ c.plan-done.new.order c.plan-done.new.starts (planned_of c.plan-done.result) (blank 128 0) c.plan-done.ensures in
+    let lent = lend c.args.widths.now c.args.guards.now in
+    let z = note_of_lem c.args.n c.args.labels.now lent c.args.starts.now _ c.plan-done.new.order c.plan-done.new.starts (planned_of c.plan-done.result) (blank 128 0) c.plan-done.ensures.leaves in
     let n : ◌≡◌ {A = Arranged} c.unwrap_or-plan.result _ = c.unwrap_or-plan.ensures ∙ planned_done c.plan-done.result in (
       front c.args.line.now c.note-line.new.line _ c.note-line.result c.note-line.ensures.wrote (omega (arith, c.note-line.ensures.wrote.0, c.note-line.ensures.upper_bound))
           ∙ ap (λ (p : Arranged). note_text c.args.n (pairs c.args.n lent.guards) p.highest (eqb (siding c.args.n lent (cleared 128 0)).answer.number 0) p.kept) n ∙ z,

@@ -13,11 +13,10 @@ height_of-h-requires c =
 
 pub returns-then-h-run-clause-by_index : goal.returns-then-h-run-clause-by_index
 returns-then-h-run-clause-by_index c = λ table l.
-    let p = places (goal.at.returns-then-h-run-clause-by_index c).After-place_of-b in
-    round_kept _ _ c.args.run.now c.args.order.now _ _ _ _ _ _ c.next_state-x.ensures c.next_state-y.ensures c.place_of-a.ensures.drawn c.place_of-b.ensures.drawn p.0 p.1 c.swap.ensures (c.height_of-h.ensures.by_index table l) c.if-h-run.true
+    round_kept _ _ c.args.run.now c.args.order.now _ _ _ _ _ _ c.next_state-x.ensures c.next_state-y.ensures c.place_of-a.ensures.drawn c.place_of-b.ensures.drawn c.swap.ensures (c.height_of-h.ensures.by_index table l) c.if-h-run.true
 
 pub returns-else-h-run-clause-by_index : goal.returns-else-h-run-clause-by_index
 returns-else-h-run-clause-by_index c = λ table l.
     let p = places (goal.at.returns-else-h-run-clause-by_index c).After-place_of-b in
-    round_undone _ _ c.args.run.now c.args.order.now _ _ _ _ _ _ c.next_state-x.ensures c.next_state-y.ensures c.place_of-a.ensures.drawn c.place_of-b.ensures.drawn p.0 p.1 c.swap.ensures (c.height_of-h.ensures.by_index table l)
-    _ c.swap-else-h-run.ensures c.if-h-run.false
+    round_undone _ _ c.args.run.now c.args.order.now _ _ _ _ _ _ c.next_state-x.ensures c.next_state-y.ensures c.place_of-a.ensures.drawn c.place_of-b.ensures.drawn c.swap.ensures (c.height_of-h.ensures.by_index table l)
+    _ p.0 p.1 c.swap-else-h-run.ensures c.if-h-run.false

@@ -4,4 +4,4 @@ use Rattle.walks.proofs.Square.fill_set.Goals as goal
 
 pub loop-j-preserved : goal.loop-j-preserved
 loop-j-preserved c =
-    filling_more _ _ _ _ c.loop-j.j _ c.loop-j.invariant (omega (arith, c.args.self.now.walkable.few)) (omega (arith, c.requires.0)) c.least_from.ensures
+    filling_more _ _ _ _ c.loop-j.j _ c.loop-j.invariant (omega (arith, c.requires.0)) (omega (arith, c.requires.1)) c.least_from.ensures
