@@ -16,7 +16,8 @@ planned-requires c =
 pub refuse-requires : goal.refuse-requires
 refuse-requires c =
     let k = short_refusal _ c.args.labels.now (lend c.args.widths.now c.args.guards.now) c.args.starts.now c.requires.0 c.requires.1 c.requires.2 c.requires.3 _ _ _ _ c.in-Err.ensures.reads in
-    (rw c.number.ensures (number_few c.in-Err.refusal.cause), k.1, omega (arith, c.requires.4))
+    let few = number_few c.in-Err.refusal.cause in
+    (omega (arith, few, k.1, c.number.ensures), omega (arith, few, k.1, c.number.ensures), omega (arith, c.requires.4))
 
 pub returns-in-Ok-clause-prints : goal.returns-in-Ok-clause-prints
 returns-in-Ok-clause-prints c =
